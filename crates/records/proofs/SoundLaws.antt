@@ -1,0 +1,91 @@
+-- The record of a writable row breaks none of rules 4 to 7, the row of such a record is writable, and each is gapped exactly if the other is.
+-- Assumes nothing.
+use mathlib.Core.Path.{_≡_, refl, sym, ap, _∙_}
+use mathlib.Core.List.{List}
+use Prim.Native.Nat.{ℕ, _+_, _-_, _≤_, _<_}
+use native.Mathlib.Decide.{decLe}
+use native.Mathlib.Omega.{arith}
+use Rattle.records.specs.Below.{_==_}
+use Rattle.records.specs.Record.{startOf, spanOf, cellOf, codeAt}
+use Rattle.records.specs.Writing.{callsStart, callsSpan, recordOf}
+use Rattle.records.specs.Rules.{outOfFrame, strayBits, unknownCall, openEnd, gapIn, gapped}
+use Rattle.records.proofs.BelowLaws.{isnt-or, isnt-and, T-isnt-isnt, none-of, any-ext, ==-eq, eq-==, ne-isnt, le-isnt, <?-lt, ≤?-le}
+use Rattle.records.proofs.ExtentLaws.{Extent, extent-of, extent-one, calls, call-range, gap-within}
+use Rattle.records.proofs.FieldLaws.{codeAt-in, codeAt-out}
+use Rattle.records.proofs.PackLaws.{Sound, sound-small, sound-first, sound-last, sound-extent, span-recordOf, byte7-recordOf, start-recordOf, cell-recordOf, cut-in, cut-out, row-again, extent-same}
+
+-- ---- the row of a sound record
+
+module _ (n : ℕ) (r : List ℕ) (x : Sound n r) where
+  pub sound-row-span : callsSpan n (codeAt r) ≡ spanOf r
+  sound-row-span = extent-one (extent-of n (codeAt r)) (sound-extent n r x) .1
+
+  pub sound-row-small : (c : ℕ) → codeAt r c ≤ 2
+  sound-row-small c = elim (decLe (startOf r) c) [
+    | no l ↦ let e = codeAt-out r c (λ h. absurd (l h)) in omega arith
+    | yes l ↦ elim (decLe (startOf r + spanOf r) c) [
+      | yes h ↦ let e = codeAt-out r c (λ k. h) in omega arith
+      | no h ↦ let e = codeAt-in r c l (omega arith) in let s = sound-small n r x (c - startOf r) (omega arith) in omega arith
+    ]
+  ]
+
+  cells-extent : Extent (spanOf r) (calls (cellOf r)) 0 (spanOf r)
+  cells-extent = record {
+    fits = omega arith;
+    none = λ e. refl;
+    first = λ h. sound-first n r x h;
+    last = λ h. let e : 0 + (spanOf r - 1) ≡ spanOf r - 1 = omega arith in rw e (sound-last n r x h);
+    before = λ c l. absurd (omega arith);
+    after = λ c l h. absurd (omega arith);
+  }
+
+  pub sound-gapped : gapped r ≡ gapIn n (codeAt r)
+  unfolding gapped
+  sound-gapped =
+      gap-within (spanOf r) (cellOf r) 0 (spanOf r) cells-extent
+      ∙ any-ext (spanOf r) _ _ (λ k l. ap (λ (z : ℕ). z == 0) (sym (codeAt-in r (startOf r + k) (omega arith) (omega arith) ∙ ap (cellOf r) (omega arith))))
+      ∙ sym (gap-within n (codeAt r) (startOf r) (spanOf r) (sound-extent n r x))
+
+-- rows alike are gapped alike
+pub gap-same : (n : ℕ) (row other : ℕ → ℕ) → ((c : ℕ) → c < n → row c ≡ other c) → gapIn n row ≡ gapIn n other
+gap-same n row other same =
+    let x = extent-of n row in
+    let w = x .fits in
+    gap-within n row _ _ x
+    ∙ any-ext (callsSpan n row) _ _ (λ k l. ap (λ (z : ℕ). z == 0) (same (callsStart n row + k) (omega arith)))
+    ∙ sym (gap-within n other _ _ (extent-same n row other same _ _ x))
+
+-- ---- the record of a writable row
+
+module _ (n t : ℕ) (row : ℕ → ℕ) (wide : n ≤ 128) (small : (c : ℕ) → c < n → row c ≤ 2) (narrow : callsSpan n row ≤ 96) where
+  cell-row : (k : ℕ) → k < callsSpan n row → cellOf (recordOf n t row) k ≡ row (callsStart n row + k)
+  cell-row k l = cell-recordOf n t row wide small k (omega arith) ∙ cut-in _ _ row k l
+
+  pub recordOf-sound : Sound n (recordOf n t row)
+  unfolding outOfFrame strayBits unknownCall openEnd
+  recordOf-sound =
+      let x = extent-of n row in
+      let w = x .fits in
+      let f = start-recordOf n t row wide in
+      let s = span-recordOf n t row in
+      let hole : (c : ℕ) → 0 < row c → row c ≡ 0 → ⊥ = λ c h e. omega arith in
+      record {
+        frame = isnt-or _ _ (isnt-or _ _ (le-isnt _ _ (omega arith)) (le-isnt _ _ (omega arith)))
+            (isnt-and _ _ (λ q. T-isnt-isnt _ (eq-== _ _ (f ∙ x .none (sym s ∙ ==-eq _ _ q)))));
+        bits = isnt-or _ _ (T-isnt-isnt _ (eq-== _ _ (byte7-recordOf n t row)))
+            (none-of 96 _ (λ k l. isnt-and _ _ (λ q. let h = ≤?-le _ _ q in T-isnt-isnt _ (eq-== _ _ (cell-recordOf n t row wide small k l ∙ cut-out _ _ row k (omega arith))))));
+        codes = none-of (spanOf (recordOf n t row)) _ (λ k l.
+            ne-isnt _ _ (λ e. let c = cell-row k (omega arith) in let h = small (callsStart n row + k) (omega arith) in omega arith));
+        ends = isnt-and _ _ (λ q.
+            let h = <?-lt _ _ q in
+            let a = cell-row 0 (omega arith) in
+            let z : callsStart n row + 0 ≡ callsStart n row = omega arith in
+            let u = call-range _ (x .first (omega arith)) in
+            let b = cell-row (spanOf (recordOf n t row) - 1) (omega arith) in
+            let v = call-range _ (x .last (omega arith)) in
+            isnt-or _ _ (ne-isnt _ _ (λ e. hole (callsStart n row) (u .0) (sym (ap row z) ∙ sym a ∙ e)))
+            (ne-isnt _ _ (λ e. hole _ (v .0) (ap (λ (k : ℕ). row (callsStart n row + (k - 1))) (sym s) ∙ sym b ∙ e))));
+      }
+
+  pub gapped-recordOf : gapped (recordOf n t row) ≡ gapIn n row
+  gapped-recordOf = sound-gapped n (recordOf n t row) recordOf-sound ∙ gap-same n (codeAt (recordOf n t row)) row (row-again n t row wide small narrow)

@@ -1,0 +1,60 @@
+use Prim.Native.Nat.{_-_, _≤_}
+use mathlib.Core.Path.{_≡_, sym, ap, _∙_}
+use Rattle.records.specs.Below.{_==_}
+use Rattle.records.specs.Record.{tagOf}
+use Rattle.records.specs.Table.{recordAt}
+use Rattle.records.proofs.PartLaws.{part-record}
+use Rattle.records.proofs.SearchLaws.{NoneBelow, none-yet, none-more, any-hit, any-none, ==-true, ==-false}
+use borrow.Author.Needs.{needs}
+use native.Mathlib.Omega.{arith}
+use Rattle.records.proofs.rules.any_tag.Statement.{statement}
+use Rattle.records.proofs.rules.any_tag.Tie as tie
+
+abbrev Inv-loop : tie.InvT-loop
+Inv-loop table sought i h₀ h = (h ≤ i) × NoneBelow h (λ j. tagOf (recordAt table j) == sought)
+
+abbrev μ-loop : tie.MeasureT-loop
+μ-loop table sought i h₀ h = i - h
+
+-- the tag that the turn reads is that of record h
+tag-read : (c : tie.After-tag Inv-loop μ-loop) → c .tag .result ≡ tagOf (recordAt (c .before .before .before .before .before .args .table .now) (c .before .before .before .loop .h))
+tag-read c = c .tag .ensures ∙ ap tagOf (part-record _ (c .before .before .before .loop .h) _ (c .before .record-at .ensures) (omega arith))
+
+loop-holds : tie.Need-loop-holds Inv-loop μ-loop
+loop-holds c = (search needs, none-yet _)
+
+record-at-requires : tie.Need-record-at-requires Inv-loop μ-loop
+record-at-requires c κs = search needs
+
+tag-requires : tie.Need-tag-requires Inv-loop μ-loop
+tag-requires c κs = search needs
+
+returns : tie.Need-returns Inv-loop μ-loop
+returns c = sym (any-hit _ _ (c .before .before .before .before .loop .h) (omega arith) (==-true _ _ (sym (tag-read (c .before)) ∙ c .if1 .taken)))
+
+add-h : tie.Need-add-h Inv-loop μ-loop
+add-h c = search needs
+
+loop-less : tie.Need-loop-less Inv-loop μ-loop
+loop-less c = search needs
+
+loop-again : tie.Need-loop-again Inv-loop μ-loop
+loop-again c = (search needs, none-more _ _ (c .before .before .before .before .loop .inv .1) (==-false _ _ (λ e. c .if1 .left (tag-read (c .before) ∙ e))))
+
+returns-2 : tie.Need-returns-2 Inv-loop μ-loop
+returns-2 c = sym (any-none _ _ (c .before .loop .h) (c .loop-test .left) (c .before .loop .inv .1))
+
+pub any-tag-spec : {M : Type 1} → statement M
+any-tag-spec =
+    tie.close
+    (tie.spec
+    Inv-loop
+    μ-loop
+    loop-holds
+    record-at-requires
+    tag-requires
+    returns
+    add-h
+    loop-less
+    loop-again
+    returns-2)

@@ -1,0 +1,70 @@
+use lib.ListN.{length}
+use Prim.Native.Nat.{_*_, _<_, _≤_}
+use native.Mathlib.Nat.{add-sub-cancel-left, sub-self}
+use Rattle.records.specs.Table.{fragments}
+use Rattle.records.proofs.PartLaws.{place-at, bytes-at, start-in, start-past, length-in, length-past}
+use mathlib.Core.Path.{sym, _∙_}
+use borrow.Author.Needs.{needs}
+use Rattle.records.proofs.table.record_at.Statement.{statement}
+use Rattle.records.proofs.table.record_at.Tie as tie
+
+mul-from : tie.Need-mul-from
+mul-from c = search needs
+
+add-result : tie.Need-add-result
+add-result c = search needs
+
+sub-result : tie.Need-sub-result
+sub-result c = search needs
+
+part-result-start : tie.Need-part-result-start
+part-result-start c = search needs
+
+part-result-end : tie.Need-part-result-end
+part-result-end c = search needs
+
+sub-result-2 : tie.Need-sub-result-2
+sub-result-2 c = search needs
+
+part-result-start-2 : tie.Need-part-result-start-2
+part-result-start-2 c = search needs
+
+part-result-end-2 : tie.Need-part-result-end-2
+part-result-end-2 c = search needs
+
+returns : tie.Need-returns
+unfolding fragments
+returns c =
+    let a = c .before .before .args in
+    let t = a .table .now in
+    let h : a .i < fragments t = c .before .if1 .taken in
+    record {
+      place = place-at (a .table .ptr .0) (a .table .ptr .1) (sym (start-in t (a .i) h));
+      bytes = bytes-at t (add-sub-cancel-left (32 * a .i) 32 ∙ sym (length-in t (a .i) h)) (sym (start-in t (a .i) h));
+    }
+
+returns-2 : tie.Need-returns-2
+unfolding fragments
+returns-2 c =
+    let a = c .before .before .args in
+    let t = a .table .now in
+    let h : fragments t ≤ a .i = c .before .if1 .left in
+    record {
+      place = place-at (a .table .ptr .0) (a .table .ptr .1) (sym (start-past t (a .i) h));
+      bytes = bytes-at t (sub-self (length t) ∙ sym (length-past t (a .i) h)) (sym (start-past t (a .i) h));
+    }
+
+pub record-at-spec : {M : Type 1} → statement M
+record-at-spec =
+    tie.close
+    (tie.spec
+    mul-from
+    add-result
+    sub-result
+    part-result-start
+    part-result-end
+    sub-result-2
+    part-result-start-2
+    part-result-end-2
+    returns
+    returns-2)

@@ -1,0 +1,80 @@
+-- Records written from calls, and one cell's code changed (paper 01, "Records and calls": "Pack does the reverse").
+-- Assumes nothing.
+use mathlib.Core.Path.{_≡_}
+use mathlib.Core.Bool.{Bool}
+use mathlib.Core.List.{List, [], _∷_, _++_}
+use Prim.Native.Nat.{ℕ, zero, suc, _+_, _*_, _-_, _/_, _%_, _^_}
+use lib.ListN.{length, getD, set}
+use Rattle.records.specs.Below.{if_then_else_, _==_, _<?_, _≤?_, _and_, isnt, anyBelow, sumBelow, firstBelow, endBelow, tab, concat}
+use Rattle.records.specs.Record.{isCall}
+
+-- k little-endian bytes of a number
+unfoldable pub bytesOf : ℕ → ℕ → List ℕ
+bytesOf zero x = []
+bytesOf (suc k) x = x % 256 ∷ bytesOf k (x / 256)
+
+-- the 24 bytes that hold the codes of 96 cells, four to a byte
+unfoldable pub cellBytes : (ℕ → ℕ) → List ℕ
+cellBytes codes = tab 24 (λ b. sumBelow 4 (λ q. 4 ^ q * codes (4 * b + q)))
+
+-- one past the last called column of a row of n codes, 0 without calls
+unfoldable pub callsEnd : ℕ → (ℕ → ℕ) → ℕ
+callsEnd n row = endBelow n (λ c. isCall (row c))
+
+-- "start": the first called column, 0 without calls
+unfoldable pub callsStart : ℕ → (ℕ → ℕ) → ℕ
+callsStart n row = if callsEnd n row == 0 then 0 else firstBelow n (λ c. isCall (row c))
+
+-- "span": how many columns the calls reach over
+unfoldable pub callsSpan : ℕ → (ℕ → ℕ) → ℕ
+callsSpan n row = callsEnd n row - callsStart n row
+
+-- the codes of a span that starts at column f and is s columns long
+unfoldable pub cut : ℕ → ℕ → (ℕ → ℕ) → ℕ → ℕ
+cut f s row i = if i <? s then row (f + i) else 0
+
+-- a record's 32 bytes by its fields and the codes of its cells
+unfoldable pub laidOut : ℕ → ℕ → ℕ → (ℕ → ℕ) → List ℕ
+laidOut t f s codes = bytesOf 4 t ++ bytesOf 2 f ++ s ∷ 0 ∷ cellBytes codes
+
+-- the record of a fragment, from its tag and its code at each of n columns
+unfoldable pub recordOf : ℕ → ℕ → (ℕ → ℕ) → List ℕ
+recordOf n t row = laidOut t (callsStart n row) (callsSpan n row) (cut (callsStart n row) (callsSpan n row) row)
+
+-- the codes of a row of cells, a hole past its end
+abbrev pub codesOf : List ℕ → ℕ → ℕ
+codesOf row c = getD row c 0
+
+-- a row is writable: at most 128 columns, no code over 2, calls that reach over at most 96 columns
+unfoldable pub writable : ℕ → (ℕ → ℕ) → Bool
+writable n row = n ≤? 128 and isnt (anyBelow n (λ c. 2 <? row c)) and callsSpan n row ≤? 96
+
+-- what writing a row's record into its own 32 bytes did: `done` where it was written, else the bytes are the old ones
+pub record RecordWritten (tag : ℕ) (row old new : List ℕ) (done : Bool) : Type 0 where
+  pub answer : done ≡ (length old == 32 and writable (length row) (codesOf row))
+  pub bytes : new ≡ if done then recordOf (length row) tag (codesOf row) else old
+
+-- the row of a fragment among m × n cells
+unfoldable pub rowOf : ℕ → List ℕ → ℕ → ℕ → ℕ
+rowOf n cells i c = getD cells (i * n + c) 0
+
+-- pack's table, from m × n cells and m tags
+unfoldable pub packed : ℕ → List ℕ → List ℕ → List ℕ
+packed n cells tags = concat (tab (length tags) (λ i. recordOf n (getD tags i 0) (rowOf n cells i)))
+
+-- a byte with the code k in its two bits from bit 2q
+unfoldable pub recoded : ℕ → ℕ → ℕ → ℕ
+recoded b q k = b - b / 4 ^ q % 4 * 4 ^ q + k * 4 ^ q
+
+-- a record with the code k in cell i, "and no other bit is changed"
+unfoldable pub withCell : List ℕ → ℕ → ℕ → List ℕ
+withCell r i k = set r (8 + i / 4) (recoded (getD r (8 + i / 4) 0) (i % 4) k)
+
+-- cell i is one of the 96, its byte is there, and k is a code with a meaning
+unfoldable pub settable : List ℕ → ℕ → ℕ → Bool
+settable r i k = i <? 96 and 8 + i / 4 <? length r and k ≤? 2
+
+-- what setting a cell did: `done` where the cell was set, else the bytes are the old ones
+pub record CellSet (i k : ℕ) (old new : List ℕ) (done : Bool) : Type 0 where
+  pub answer : done ≡ settable old i k
+  pub bytes : new ≡ if done then withCell old i k else old

@@ -1,0 +1,92 @@
+// A record's fields and cells. Each reader takes any bytes: one past the end counts as 0.
+ghost use mathlib.Core.Path.{_≡_};
+ghost use Prim.Native.Nat.{_+_, _<_};
+ghost use lib.ListN.{getD};
+ghost use Rattle.records.specs.Record.{tagOf, startOf, spanOf, byte7Of, cellOf, codeAt};
+ghost use Rattle.records.specs.Below.{tab};
+
+// Byte i, or 0 past the end.
+pub fn byte(part: &[u8], i: usize) -> u8
+    ensures { λ r. ⌜ r ≡ getD (now (part .entry)) i 0 ⌝ }
+{
+    if i < part.len() { part[i] } else { 0 }
+}
+
+// The tag: bytes 0 to 3, little-endian.
+pub fn tag(part: &[u8]) -> u32
+    ensures { λ r. ⌜ r ≡ tagOf (now (part .entry)) ⌝ }
+{
+    let a = byte(part, 0) as u32;
+    let b = byte(part, 1) as u32;
+    let c = byte(part, 2) as u32;
+    let d = byte(part, 3) as u32;
+    a + 256 * b + 65536 * c + 16777216 * d
+}
+
+// The first called column: bytes 4 and 5, little-endian.
+pub fn start(part: &[u8]) -> u16
+    ensures { λ r. ⌜ r ≡ startOf (now (part .entry)) ⌝ }
+{
+    let a = byte(part, 4) as u16;
+    let b = byte(part, 5) as u16;
+    a + 256 * b
+}
+
+// How many columns the calls reach over: byte 6.
+pub fn span(part: &[u8]) -> u8
+    ensures { λ r. ⌜ r ≡ spanOf (now (part .entry)) ⌝ }
+{
+    byte(part, 6)
+}
+
+// Byte 7, which a table that is accepted has as 0.
+pub fn byte7(part: &[u8]) -> u8
+    ensures { λ r. ⌜ r ≡ byte7Of (now (part .entry)) ⌝ }
+{
+    byte(part, 7)
+}
+
+// A copy of bytes 8 to 31.
+fn cell_bytes(part: &[u8]) -> [u8; 24]
+    ensures { λ r. ⌜ r ≡ tab 24 (λ k. getD (now (part .entry)) (8 + k) 0) ⌝ }
+{
+    let mut copy = [0u8; 24];
+    let mut k = 0;
+    while k < 24 {
+        copy[k] = byte(part, 8 + k);
+        k += 1;
+    }
+    copy
+}
+
+// The code of cell i, read from a copy of bytes 8 to 31; 0 from cell 96 on.
+pub fn cell(part: &[u8], i: usize) -> u8
+    ensures { λ r. ⌜ r ≡ cellOf (now (part .entry)) i ⌝ }
+{
+    if 96 <= i {
+        return 0;
+    }
+    let copy = cell_bytes(part);
+    let b = copy[i / 4];
+    match i % 4 {
+        0 => b % 4,
+        1 => b / 4 % 4,
+        2 => b / 16 % 4,
+        _ => b / 64 % 4,
+    }
+}
+
+// The code at column c, a hole outside the span.
+pub fn code_at(part: &[u8], c: usize) -> u8
+    ensures { λ r. ⌜ r ≡ codeAt (now (part .entry)) c ⌝ }
+{
+    let s = start(part) as usize;
+    let k = span(part) as usize;
+    if c < s {
+        return 0;
+    }
+    if s + k <= c {
+        return 0;
+    }
+    cell(part, c - s)
+}

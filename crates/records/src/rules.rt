@@ -1,0 +1,183 @@
+// The rules of a table, tested in the paper's order.
+ghost use mathlib.Core.Path.{_≡_};
+ghost use Prim.Native.Nat.{_<_, _≤_};
+ghost use Rattle.records.specs.Below.{_==_, _≤?_, _and_, isnt, anyBelow};
+ghost use Rattle.records.specs.Record.{tagOf, spanOf, cellOf};
+ghost use Rattle.records.specs.Table.{fragments, recordAt};
+ghost use Rattle.records.specs.Outcome.{accepted, outcomeOf};
+ghost use Rattle.records.specs.Rules.{decide, outOfFrame, strayBits, openEnd, recordRules, tableRules, sizeRules, tableVerdict};
+use crate::Outcome;
+use crate::fields::byte7;
+use crate::fields::cell;
+use crate::fields::span;
+use crate::fields::start;
+use crate::fields::tag;
+use crate::table::record_at;
+
+// Whether cell k lies after the span and is not 0.
+fn stray(part: &[u8], k: usize) -> bool
+    ensures { λ r. ⌜ r ≡ (spanOf (now (part .entry)) ≤? k and isnt (cellOf (now (part .entry)) k == 0)) ⌝ }
+{
+    if span(part) as usize <= k {
+        return cell(part, k) != 0;
+    }
+    false
+}
+
+// Whether any cell lies after the span and is not 0.
+fn any_stray(part: &[u8]) -> bool
+    ensures { λ r. ⌜ r ≡ anyBelow 96 (λ k. spanOf (now (part .entry)) ≤? k and isnt (cellOf (now (part .entry)) k == 0)) ⌝ }
+{
+    let mut k = 0;
+    while k < 96 {
+        if stray(part, k) {
+            return true;
+        }
+        k += 1;
+    }
+    false
+}
+
+// Whether a cell of the span has the code.
+fn any_code(part: &[u8], code: u8) -> bool
+    ensures { λ r. ⌜ r ≡ anyBelow (spanOf (now (part .entry))) (λ k. cellOf (now (part .entry)) k == code) ⌝ }
+{
+    let end = span(part) as usize;
+    let mut k = 0;
+    while k < end {
+        if cell(part, k) == code {
+            return true;
+        }
+        k += 1;
+    }
+    false
+}
+
+// Whether a record before i has the tag.
+fn any_tag(table: &[u8], sought: u32, i: usize) -> bool
+    requires { ⌜ i ≤ fragments (now table) ⌝ }
+    ensures { λ r. ⌜ r ≡ anyBelow i (λ h. tagOf (recordAt (now (table .entry)) h) == sought) ⌝ }
+{
+    let mut h = 0;
+    while h < i {
+        if tag(record_at(table, h)) == sought {
+            return true;
+        }
+        h += 1;
+    }
+    false
+}
+
+// 4: span over 96; start + span over n; span 0 and start not 0.
+fn out_of_frame(n: usize, part: &[u8]) -> bool
+    ensures { λ r. ⌜ r ≡ outOfFrame n (now (part .entry)) ⌝ }
+{
+    let s = start(part) as usize;
+    let k = span(part) as usize;
+    if 96 < k {
+        return true;
+    }
+    if n < s + k {
+        return true;
+    }
+    if k == 0 {
+        return s != 0;
+    }
+    false
+}
+
+// 5: byte 7 not 0, or any cell after the span not 0.
+fn stray_bits(part: &[u8]) -> bool
+    ensures { λ r. ⌜ r ≡ strayBits (now (part .entry)) ⌝ }
+{
+    if byte7(part) != 0 {
+        return true;
+    }
+    any_stray(part)
+}
+
+// 7: span over 0, first or last cell a hole.
+fn open_end(part: &[u8]) -> bool
+    ensures { λ r. ⌜ r ≡ openEnd (now (part .entry)) ⌝ }
+{
+    let k = span(part) as usize;
+    if k == 0 {
+        return false;
+    }
+    if cell(part, 0) == 0 {
+        return true;
+    }
+    cell(part, k - 1) == 0
+}
+
+// Record i by 4 to 9. A hole of the span lies between two calls once 6 and 7 are kept.
+fn record_fault(n: usize, table: &[u8], i: usize) -> Outcome
+    requires { ⌜ i < fragments (now table) ⌝ }
+    ensures { λ r. ⌜ outcomeOf r ≡ decide (recordRules n (now (table .entry)) i) (accepted 0) ⌝ }
+{
+    let part = record_at(table, i);
+    if out_of_frame(n, part) {
+        return Outcome::Refused(4, i);
+    }
+    if stray_bits(part) {
+        return Outcome::Refused(5, i);
+    }
+    if any_code(part, 3) {
+        return Outcome::Refused(6, i);
+    }
+    if open_end(part) {
+        return Outcome::Refused(7, i);
+    }
+    if any_code(part, 0) {
+        return Outcome::Refused(8, i);
+    }
+    if any_tag(table, tag(part), i) {
+        return Outcome::Refused(9, i);
+    }
+    Outcome::Accepted(0)
+}
+
+// The records from 0, each by 4 to 9: the first fault, or the number of records.
+pub fn records_fault(n: usize, table: &[u8]) -> Outcome
+    ensures { λ r. ⌜ outcomeOf r ≡ decide (tableRules n (now (table .entry))) (accepted (fragments (now (table .entry)))) ⌝ }
+{
+    let m = table.len() / 32;
+    let mut i = 0;
+    while i < m {
+        let fault = record_fault(n, table, i);
+        if let Outcome::Refused(number, place) = fault {
+            return Outcome::Refused(number, place);
+        }
+        i += 1;
+    }
+    Outcome::Accepted(m)
+}
+
+// The sizes by 3, 1, 2: the first fault, or the number of records.
+pub fn size_fault(n: usize, table: &[u8]) -> Outcome
+    ensures { λ r. ⌜ outcomeOf r ≡ decide (sizeRules n (now (table .entry))) (accepted (fragments (now (table .entry)))) ⌝ }
+{
+    if 128 < n {
+        return Outcome::Refused(3, 0);
+    }
+    let len = table.len();
+    if len % 32 != 0 {
+        return Outcome::Refused(1, 0);
+    }
+    let m = len / 32;
+    if 128 < m {
+        return Outcome::Refused(2, 0);
+    }
+    Outcome::Accepted(m)
+}
+
+// A table by 3, 1, 2, then its records: the first fault, or the number of records.
+pub fn table_fault(n: usize, table: &[u8]) -> Outcome
+    ensures { λ r. ⌜ outcomeOf r ≡ tableVerdict n (now (table .entry)) ⌝ }
+{
+    let sizes = size_fault(n, table);
+    match sizes {
+        Outcome::Refused(number, place) => Outcome::Refused(number, place),
+        Outcome::Accepted(_) => records_fault(n, table),
+    }
+}
