@@ -203,6 +203,11 @@ anyBelow-at (suc n) p t = go (anyBelow-at n p) (or-cases (anyBelow n p) (p n) t)
     go rest (inl s) = let r = rest s in (r .0, let h = r .1 in omega arith, r .2)
     go rest (inr s) = (n, le-refl (suc n), s)
 
+pub all-ext : (n : ℕ) (p q : ℕ → Bool) → ((i : ℕ) → i < n → p i ≡ q i) → allBelow n p ≡ allBelow n q
+unfolding allBelow
+all-ext zero p q h = refl
+all-ext (suc n) p q h = ap₂ _and_ (all-ext n p q (λ i l. h i (omega arith))) (h n (omega arith))
+
 pub any-ext : (n : ℕ) (p q : ℕ → Bool) → ((i : ℕ) → i < n → p i ≡ q i) → anyBelow n p ≡ anyBelow n q
 unfolding anyBelow
 any-ext zero p q h = refl

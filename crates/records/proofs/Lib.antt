@@ -6,6 +6,7 @@ pub mod ByteLaws
 pub mod FieldLaws
 pub mod ExtentLaws
 pub mod PartLaws
+pub mod MemberLaws
 pub mod RuleLaws
 pub mod FaultLaws
 pub mod OutcomeLaws
@@ -13,6 +14,8 @@ pub mod CellLaws
 pub mod PackLaws
 pub mod SoundLaws
 pub mod TableLaws
+pub mod AcceptedLaws
 pub mod ScanLaws
 pub mod WritingLaws
+pub mod TrialTools
 pub mod Trials

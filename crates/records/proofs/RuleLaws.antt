@@ -1,26 +1,29 @@
 -- How a verdict goes through a list of rules.
 -- Assumes nothing.
-use mathlib.Core.Path.{_≡_, refl, _∙_}
+use mathlib.Core.Path.{_≡_, refl, sym, ap, subst, _∙_}
 use mathlib.Core.Bool.{Bool, true, false}
-use mathlib.Core.List.{List, [], _∷_, _++_}
+use mathlib.Core.List.{List, [], _∷_, _++_, List·Memᴰ, List·Memᴰ·head, List·Memᴰ·tail}
+use lib.Dec.{T}
 use Prim.Native.Nat.{ℕ, suc, _+_, _-_, _≤_, _<_}
 use native.Mathlib.Nat.{sub-zero}
 use native.Mathlib.Numerals.{add-one}
 use native.Mathlib.Omega.{arith}
-use Rattle.records.specs.Below.{if_then_else_, tab, tabFrom, concat}
+use Rattle.records.specs.Below.{if_then_else_, isnt, tab, tabFrom, concat}
 use Rattle.records.specs.Outcome.{Verdict, accepted, refused}
 use Rattle.records.specs.Rules.{Rule, decide}
+use Rattle.records.proofs.BelowLaws.{is-false}
+use Rattle.records.proofs.MemberLaws.{concat-of}
 
 -- ---- one rule
 
 module _ (r : Rule) (rs : List Rule) (v : Verdict) where
-  pub decide-broken : r .broken ≡ true → decide (r ∷ rs) v ≡ refused (r .number) (r .place)
+  pub rule-broken : r .broken ≡ true → decide (r ∷ rs) v ≡ refused (r .number) (r .place)
   unfolding decide
-  decide-broken e = rw e
+  rule-broken e = rw e
 
-  pub decide-kept : r .broken ≡ false → decide (r ∷ rs) v ≡ decide rs v
+  pub rule-kept : r .broken ≡ false → decide (r ∷ rs) v ≡ decide rs v
   unfolding decide
-  decide-kept e = rw e
+  rule-kept e = rw e
 
 pub decide-none : (v : Verdict) → decide [] v ≡ v
 unfolding decide
@@ -56,6 +59,49 @@ decide-refused (r ∷ rs) j k p v e = go (decide-refused rs j k p v) (r .broken)
         → (if b then refused (r .number) (r .place) else decide rs v) ≡ refused k p
     go rest true e = e
     go rest false e = rest e
+
+module _ (rs : List Rule) (stages : List (List Rule)) (j : ℕ) (v : Verdict) where
+  -- a stage that accepts leaves the verdict to those after it
+  pub stage-kept : (k : ℕ) → decide rs (accepted j) ≡ accepted k → decide (concat (rs ∷ stages)) v ≡ decide (concat stages) v
+  unfolding concat
+  stage-kept k e = decide-append rs (concat stages) v ∙ decide-accepted rs j k (decide (concat stages) v) e
+
+  -- a stage that refuses decides
+  pub stage-refused : (k p : ℕ) → decide rs (accepted j) ≡ refused k p → decide (concat (rs ∷ stages)) v ≡ refused k p
+  unfolding concat
+  stage-refused k p e = decide-append rs (concat stages) v ∙ decide-refused rs j k p (decide (concat stages) v) e
+
+-- the last stage decides alone
+pub stage-last : (rs : List Rule) (v : Verdict) → decide (concat (rs ∷ [])) v ≡ decide rs v
+unfolding concat decide
+stage-last rs v = decide-append rs [] v
+
+-- ---- an acceptance, rule by rule
+
+-- rules that accept do so with the count that they were given
+pub accepted-count : (rs : List Rule) (j k : ℕ) → decide rs (accepted j) ≡ accepted k → j ≡ k
+accepted-count rs j k e = let f = decide-accepted rs j k (accepted j) e in cc
+
+-- … and none of them is broken
+pub unbroken : (rs : List Rule) (j k : ℕ) → decide rs (accepted j) ≡ accepted k → (r : Rule) → List·Memᴰ r rs → T (isnt (r .broken))
+unfolding decide isnt
+unbroken [] j k e r m = elim m [ ]
+unbroken (s ∷ rs) j k e r m = go (unbroken rs j k) (s .broken) refl e m
+  where
+    go : (decide rs (accepted j) ≡ accepted k → (r : Rule) → List·Memᴰ r rs → T (isnt (r .broken))) → (b : Bool) → s .broken ≡ b
+        → (if b then refused (s .number) (s .place) else decide rs (accepted j)) ≡ accepted k → List·Memᴰ r (s ∷ rs) → T (isnt (r .broken))
+    go rest true is f n = absurd (let z : _≡_ {A = ℕ} 0 1 = cc in omega arith)
+    go rest false is f (List·Memᴰ·head p) = subst (λ (b : Bool). T (isnt b)) (sym (ap (λ (q : Rule). q .broken) p ∙ is)) tt
+    go rest false is f (List·Memᴰ·tail n) = rest f r n
+
+-- rules of which none is broken leave the verdict
+pub all-unbroken : (rs : List Rule) (v : Verdict) → ((r : Rule) → List·Memᴰ r rs → T (isnt (r .broken))) → decide rs v ≡ v
+all-unbroken [] v f = decide-none v
+all-unbroken (r ∷ rs) v f = rule-kept r rs v (sym (is-false _ (f r (List·Memᴰ·head refl)))) ∙ all-unbroken rs v (λ s m. f s (List·Memᴰ·tail m))
+
+-- every stage of rules that accept accepts
+pub accepted-stage : (stages : List (List Rule)) (j k : ℕ) → decide (concat stages) (accepted j) ≡ accepted k → (rs : List Rule) → List·Memᴰ rs stages → decide rs (accepted j) ≡ accepted j
+accepted-stage stages j k e rs m = all-unbroken rs (accepted j) (λ r h. unbroken (concat stages) j k e r (concat-of h m))
 
 -- ---- rules row by row, as a loop that counts from i to m tests them
 

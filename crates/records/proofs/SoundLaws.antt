@@ -1,6 +1,6 @@
 -- The record of a writable row breaks none of rules 4 to 7, the row of such a record is writable, and each is gapped exactly if the other is.
 -- Assumes nothing.
-use mathlib.Core.Path.{_≡_, refl, sym, ap, _∙_}
+use mathlib.Core.Path.{_≡_, sym, ap, _∙_}
 use mathlib.Core.List.{List}
 use Prim.Native.Nat.{ℕ, _+_, _-_, _≤_, _<_}
 use native.Mathlib.Decide.{decLe}
@@ -9,10 +9,11 @@ use Rattle.records.specs.Below.{_==_}
 use Rattle.records.specs.Record.{startOf, spanOf, cellOf, codeAt}
 use Rattle.records.specs.Writing.{callsStart, callsSpan, recordOf}
 use Rattle.records.specs.Rules.{outOfFrame, strayBits, unknownCall, openEnd, gapIn, gapped}
-use Rattle.records.proofs.BelowLaws.{isnt-or, isnt-and, T-isnt-isnt, none-of, any-ext, ==-eq, eq-==, ne-isnt, le-isnt, <?-lt, ≤?-le}
+use Rattle.records.proofs.BelowLaws.{is-false, isnt-or, isnt-and, T-isnt-isnt, none-of, any-ext, ==-eq, eq-==, ne-isnt, le-isnt, <?-lt, ≤?-le}
 use Rattle.records.proofs.ExtentLaws.{Extent, extent-of, extent-one, calls, call-range, gap-within}
 use Rattle.records.proofs.FieldLaws.{codeAt-in, codeAt-out}
-use Rattle.records.proofs.PackLaws.{Sound, sound-small, sound-first, sound-last, sound-extent, span-recordOf, byte7-recordOf, start-recordOf, cell-recordOf, cut-in, cut-out, row-again, extent-same}
+use Rattle.records.proofs.FaultLaws.{span-extent}
+use Rattle.records.proofs.PackLaws.{Sound, sound-small, sound-extent, span-recordOf, byte7-recordOf, start-recordOf, cell-recordOf, cut-in, cut-out, row-again, extent-same}
 
 -- ---- the row of a sound record
 
@@ -30,14 +31,7 @@ module _ (n : ℕ) (r : List ℕ) (x : Sound n r) where
   ]
 
   cells-extent : Extent (spanOf r) (calls (cellOf r)) 0 (spanOf r)
-  cells-extent = record {
-    fits = omega arith;
-    none = λ e. refl;
-    first = λ h. sound-first n r x h;
-    last = λ h. let e : 0 + (spanOf r - 1) ≡ spanOf r - 1 = omega arith in rw e (sound-last n r x h);
-    before = λ c l. absurd (omega arith);
-    after = λ c l h. absurd (omega arith);
-  }
+  cells-extent = span-extent r (sym (is-false _ (x .codes))) (sym (is-false _ (x .ends)))
 
   pub sound-gapped : gapped r ≡ gapIn n (codeAt r)
   unfolding gapped

@@ -1,17 +1,18 @@
 -- Paper 01's trials that concern records, every rule alone, and each two rules that one table can break together, as one computed statement.
 -- Assumes nothing.
 use mathlib.Core.Path.{_≡_, refl}
-use mathlib.Core.Bool.{Bool, true, false, _&&_}
+use mathlib.Core.Bool.{Bool}
 use mathlib.Core.List.{List, [], _∷_, _++_}
 use Prim.Native.Nat.{ℕ, suc, _-_}
 use lib.Dec.{eqb}
-use lib.ListN.{length, replicate}
+use lib.ListN.{replicate}
 use Rattle.records.specs.Below.{if_then_else_, _==_, _<?_, _≤?_, _and_, _or_, isnt, anyBelow, sumBelow, firstBelow, endBelow, maxBelow, tab, tabFrom, concat}
 use Rattle.records.specs.Record.{littleEndian, tagOf, startOf, spanOf, byte7Of, isCall, cellOf, codeAt}
 use Rattle.records.specs.Table.{fragments, recordAt, position, columnCount, unpackedCells, unpackedTags}
 use Rattle.records.specs.Writing.{bytesOf, cellBytes, callsEnd, callsStart, callsSpan, cut, laidOut, recordOf, rowOf, packed, recoded, withCell}
 use Rattle.records.specs.Outcome.{Verdict, accepted, refused}
 use Rattle.records.specs.Rules.{decide, outOfFrame, strayBits, unknownCall, openEnd, gapIn, gapped, tagTwice, recordRules, tableRules, sizeRules, tableVerdict}
+use Rattle.records.proofs.TrialTools.{sameVerdict, sameList, filled, made}
 
 -- ---- trials
 
@@ -20,21 +21,9 @@ pub data Trial : Type 0 where
   decides : ℕ → List ℕ → Verdict → Trial
   lists : List ℕ → List ℕ → Trial
 
-sameVerdict : Verdict → Verdict → Bool
-sameVerdict (accepted j) (accepted k) = eqb j k
-sameVerdict (accepted j) (refused k p) = false
-sameVerdict (refused k p) (accepted j) = false
-sameVerdict (refused j p) (refused k q) = eqb j k && eqb p q
-
-sameList : List ℕ → List ℕ → Bool
-sameList [] [] = true
-sameList [] (y ∷ ys) = false
-sameList (x ∷ xs) [] = false
-sameList (x ∷ xs) (y ∷ ys) = eqb x y && sameList xs ys
-
 passes : Trial → Bool
 passes (decides n table v) = sameVerdict (tableVerdict n table) v
-passes (lists given expected) = sameList given expected
+passes (lists given expected) = sameList eqb given expected
 
 -- the places of the trials that fail, counted from i
 pub failing : ℕ → List Trial → List ℕ
@@ -42,14 +31,6 @@ failing i [] = []
 failing i (t ∷ ts) = if passes t then failing (suc i) ts else i ∷ failing (suc i) ts
 
 -- ---- records
-
--- bytes filled with zeros to a record's 32
-filled : List ℕ → List ℕ
-filled bytes = bytes ++ replicate (32 - length bytes) 0
-
--- a record with a tag below 256, a start below 256, a span, byte 7 and the first bytes of its cells
-made : ℕ → ℕ → ℕ → ℕ → List ℕ → List ℕ
-made tag start span byte7 cells = filled (tag ∷ 0 ∷ 0 ∷ 0 ∷ start ∷ 0 ∷ span ∷ byte7 ∷ cells)
 
 -- cells by their letters, four to a byte: A at cell 0 is 1, at cell 1 is 4, and so on
 one : ℕ → List ℕ

@@ -5,6 +5,7 @@ mod rules;
 mod table;
 mod writing;
 
+pub use fields::byte;
 pub use fields::byte7;
 pub use fields::cell;
 pub use fields::code_at;

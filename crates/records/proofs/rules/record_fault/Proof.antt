@@ -10,7 +10,7 @@ use Rattle.records.specs.Table.{recordAt}
 use Rattle.records.specs.Rules.{outOfFrame, strayBits, unknownCall, openEnd, gapped, tagTwice, recordRules, decide}
 use Rattle.records.proofs.PartLaws.{part-record}
 use Rattle.records.proofs.FaultLaws.{gapped-holes}
-use Rattle.records.proofs.RuleLaws.{decide-broken, decide-kept, decide-none}
+use Rattle.records.proofs.RuleLaws.{rule-broken, rule-kept, decide-none}
 use borrow.Author.Needs.{needs}
 use Rattle.records.proofs.rules.record_fault.Statement.{statement}
 use Rattle.records.proofs.rules.record_fault.Tie as tie
@@ -50,62 +50,62 @@ twice-read c =
 -- the rules that are kept on the way are passed over
 past-4 : (c : tie.Else1) → decide (recordRules (c .before .before .before .before .args .n) (c .before .before .before .before .args .table .now) (c .before .before .before .before .args .i)) (accepted 0) ≡ decide (drop 1 (recordRules (c .before .before .before .before .args .n) (c .before .before .before .before .args .table .now) (c .before .before .before .before .args .i))) (accepted 0)
 unfolding recordRules
-past-4 c = decide-kept _ _ _ (sym (frame-read (c .before)) ∙ c .if1 .left)
+past-4 c = rule-kept _ _ _ (sym (frame-read (c .before)) ∙ c .if1 .left)
 
 past-5 : (c : tie.Else2) → decide (recordRules (c .before .before .before .before .before .before .args .n) (c .before .before .before .before .before .before .args .table .now) (c .before .before .before .before .before .before .args .i)) (accepted 0) ≡ decide (drop 2 (recordRules (c .before .before .before .before .before .before .args .n) (c .before .before .before .before .before .before .args .table .now) (c .before .before .before .before .before .before .args .i))) (accepted 0)
 unfolding recordRules
-past-5 c = past-4 (c .before .before) ∙ decide-kept _ _ _ (sym (stray-read (c .before)) ∙ c .if2 .left)
+past-5 c = past-4 (c .before .before) ∙ rule-kept _ _ _ (sym (stray-read (c .before)) ∙ c .if2 .left)
 
 past-6 : (c : tie.Else3) → decide (recordRules (c .before .before .before .before .before .before .before .before .args .n) (c .before .before .before .before .before .before .before .before .args .table .now) (c .before .before .before .before .before .before .before .before .args .i)) (accepted 0) ≡ decide (drop 3 (recordRules (c .before .before .before .before .before .before .before .before .args .n) (c .before .before .before .before .before .before .before .before .args .table .now) (c .before .before .before .before .before .before .before .before .args .i))) (accepted 0)
 unfolding recordRules
-past-6 c = past-5 (c .before .before) ∙ decide-kept _ _ _ (sym (unknown-read (c .before)) ∙ c .if3 .left)
+past-6 c = past-5 (c .before .before) ∙ rule-kept _ _ _ (sym (unknown-read (c .before)) ∙ c .if3 .left)
 
 past-7 : (c : tie.Else4) → decide (recordRules (c .before .before .before .before .before .before .before .before .before .before .args .n) (c .before .before .before .before .before .before .before .before .before .before .args .table .now) (c .before .before .before .before .before .before .before .before .before .before .args .i)) (accepted 0) ≡ decide (drop 4 (recordRules (c .before .before .before .before .before .before .before .before .before .before .args .n) (c .before .before .before .before .before .before .before .before .before .before .args .table .now) (c .before .before .before .before .before .before .before .before .before .before .args .i))) (accepted 0)
 unfolding recordRules
-past-7 c = past-6 (c .before .before) ∙ decide-kept _ _ _ (sym (open-read (c .before)) ∙ c .if4 .left)
+past-7 c = past-6 (c .before .before) ∙ rule-kept _ _ _ (sym (open-read (c .before)) ∙ c .if4 .left)
 
 past-8 : (c : tie.Else5) → decide (recordRules (c .before .before .before .before .before .before .before .before .before .before .before .before .args .n) (c .before .before .before .before .before .before .before .before .before .before .before .before .args .table .now) (c .before .before .before .before .before .before .before .before .before .before .before .before .args .i)) (accepted 0) ≡ decide (drop 5 (recordRules (c .before .before .before .before .before .before .before .before .before .before .before .before .args .n) (c .before .before .before .before .before .before .before .before .before .before .before .before .args .table .now) (c .before .before .before .before .before .before .before .before .before .before .before .before .args .i))) (accepted 0)
 unfolding recordRules
-past-8 c = past-7 (c .before .before) ∙ decide-kept _ _ _ (sym (gapped-read (c .before)) ∙ c .if5 .left)
+past-8 c = past-7 (c .before .before) ∙ rule-kept _ _ _ (sym (gapped-read (c .before)) ∙ c .if5 .left)
 
 past-9 : (c : tie.Else6) → decide (recordRules (c .before .before .before .before .before .before .before .before .before .before .before .before .before .before .before .args .n) (c .before .before .before .before .before .before .before .before .before .before .before .before .before .before .before .args .table .now) (c .before .before .before .before .before .before .before .before .before .before .before .before .before .before .before .args .i)) (accepted 0) ≡ decide (drop 6 (recordRules (c .before .before .before .before .before .before .before .before .before .before .before .before .before .before .before .args .n) (c .before .before .before .before .before .before .before .before .before .before .before .before .before .before .before .args .table .now) (c .before .before .before .before .before .before .before .before .before .before .before .before .before .before .before .args .i))) (accepted 0)
 unfolding recordRules
-past-9 c = past-8 (c .before .before .before) ∙ decide-kept _ _ _ (sym (twice-read (c .before)) ∙ c .if6 .left)
+past-9 c = past-8 (c .before .before .before) ∙ rule-kept _ _ _ (sym (twice-read (c .before)) ∙ c .if6 .left)
 
 out-of-frame-requires : tie.Need-out-of-frame-requires
 out-of-frame-requires c κs = search needs
 
 returns : tie.Need-returns
 unfolding recordRules
-returns c = sym (decide-broken _ _ _ (sym (frame-read (c .before)) ∙ c .if1 .taken))
+returns c = sym (rule-broken _ _ _ (sym (frame-read (c .before)) ∙ c .if1 .taken))
 
 stray-bits-requires : tie.Need-stray-bits-requires
 stray-bits-requires c κs = search needs
 
 returns-2 : tie.Need-returns-2
 unfolding recordRules
-returns-2 c = sym (past-4 (c .before .before) ∙ decide-broken _ _ _ (sym (stray-read (c .before)) ∙ c .if2 .taken))
+returns-2 c = sym (past-4 (c .before .before) ∙ rule-broken _ _ _ (sym (stray-read (c .before)) ∙ c .if2 .taken))
 
 any-code-requires : tie.Need-any-code-requires
 any-code-requires c κs = search needs
 
 returns-3 : tie.Need-returns-3
 unfolding recordRules
-returns-3 c = sym (past-5 (c .before .before) ∙ decide-broken _ _ _ (sym (unknown-read (c .before)) ∙ c .if3 .taken))
+returns-3 c = sym (past-5 (c .before .before) ∙ rule-broken _ _ _ (sym (unknown-read (c .before)) ∙ c .if3 .taken))
 
 open-end-requires : tie.Need-open-end-requires
 open-end-requires c κs = search needs
 
 returns-4 : tie.Need-returns-4
 unfolding recordRules
-returns-4 c = sym (past-6 (c .before .before) ∙ decide-broken _ _ _ (sym (open-read (c .before)) ∙ c .if4 .taken))
+returns-4 c = sym (past-6 (c .before .before) ∙ rule-broken _ _ _ (sym (open-read (c .before)) ∙ c .if4 .taken))
 
 any-code-requires-2 : tie.Need-any-code-requires-2
 any-code-requires-2 c κs = search needs
 
 returns-5 : tie.Need-returns-5
 unfolding recordRules
-returns-5 c = sym (past-7 (c .before .before) ∙ decide-broken _ _ _ (sym (gapped-read (c .before)) ∙ c .if5 .taken))
+returns-5 c = sym (past-7 (c .before .before) ∙ rule-broken _ _ _ (sym (gapped-read (c .before)) ∙ c .if5 .taken))
 
 tag-requires : tie.Need-tag-requires
 tag-requires c κs = search needs
@@ -115,7 +115,7 @@ any-tag-requires c κs = search needs
 
 returns-6 : tie.Need-returns-6
 unfolding recordRules
-returns-6 c = sym (past-8 (c .before .before .before) ∙ decide-broken _ _ _ (sym (twice-read (c .before)) ∙ c .if6 .taken))
+returns-6 c = sym (past-8 (c .before .before .before) ∙ rule-broken _ _ _ (sym (twice-read (c .before)) ∙ c .if6 .taken))
 
 returns-7 : tie.Need-returns-7
 unfolding recordRules

@@ -1,0 +1,97 @@
+-- Matrices of one size: with the same conflicts they have the same lawful sides and the same S and F, and with the same cells the same answers.
+-- Assumes nothing.
+use mathlib.Core.Path.{_≡_, refl, ap, ap₂, _∙_, fun-ext}
+use mathlib.Core.Bool.{Bool}
+use mathlib.Core.List.{List, [], _++_}
+use Prim.Native.Nat.{ℕ, zero, suc, _<_}
+use lib.ListN.{getD}
+use Rattle.records.specs.Below.{if_then_else_, bit, tab, concat, firstBelow, _==_, _and_, _or_, isnt}
+use Rattle.records.specs.Record.{isCall}
+use Rattle.records.proofs.BelowLaws.{any-ext, all-ext}
+use Rattle.records.proofs.RowLaws.{tab-ext}
+use Rattle.conflicts.specs.Choice.{some, first, passing, firstLeast, marked, zeros, keepAll, keepLists}
+use Rattle.conflicts.specs.Grid.{Grid, withCells, callsConflict, conflictOn, conflictOnKept}
+use Rattle.conflicts.specs.Sides.{sideLists, sameSide, lawful, errorFree, firstSides}
+use Rattle.conflicts.specs.Removal.{snpKeepMarks, fragmentKeepMarks}
+use Rattle.conflicts.specs.Haplotypes.{haplotype, haplotypes}
+use Rattle.conflicts.specs.Blocks.{linked, reached, lowest, block}
+use Rattle.conflicts.specs.Answer.{answer, snpAnswer, fragmentAnswer, checkAnswer}
+
+-- the same conflicts
+module _ (g : Grid) (cell : ℕ → ℕ → ℕ) (same : (i j c : ℕ) → i < g .m → j < g .m → c < g .n → callsConflict (g .cell i c) (g .cell j c) ≡ callsConflict (cell i c) (cell j c)) where
+  lawful-conflicts : (cols sides : List ℕ) → lawful g cols sides ≡ lawful (withCells g cell) cols sides
+  unfolding lawful conflictOnKept conflictOn withCells
+  lawful-conflicts cols sides =
+      all-ext (g .m) _ _ λ i hi. all-ext (g .m) _ _ λ j hj.
+      ap (λ (b : Bool). isnt (sameSide sides i j and b)) (any-ext (g .n) _ _ λ c hc. ap (λ (b : Bool). marked cols c and b) (same i j c hi hj hc))
+
+  pub errorFree-conflicts : (k : ℕ) (cols frags : List ℕ) → errorFree k g cols frags ≡ errorFree k (withCells g cell) cols frags
+  unfolding errorFree
+  errorFree-conflicts k cols frags = ap (λ (p : List ℕ → Bool). some p (sideLists k frags)) (fun-ext (lawful-conflicts cols))
+
+  pub firstSides-conflicts : (k : ℕ) (cols frags : List ℕ) → firstSides k g cols frags ≡ firstSides k (withCells g cell) cols frags
+  unfolding firstSides
+  firstSides-conflicts k cols frags = ap (λ (p : List ℕ → Bool). first p (sideLists k frags) []) (fun-ext (lawful-conflicts cols))
+
+  pub snp-conflicts : snpKeepMarks g ≡ snpKeepMarks (withCells g cell)
+  unfolding snpKeepMarks withCells
+  snp-conflicts = ap (λ (p : List ℕ → Bool). firstLeast zeros (passing p (keepLists (g .n))) []) (fun-ext (λ cols. errorFree-conflicts 2 cols (keepAll (g .m))))
+
+  pub fragment-conflicts : fragmentKeepMarks g ≡ fragmentKeepMarks (withCells g cell)
+  unfolding fragmentKeepMarks withCells
+  fragment-conflicts = ap (λ (p : List ℕ → Bool). firstLeast zeros (passing p (keepLists (g .m))) []) (fun-ext (errorFree-conflicts 2 (keepAll (g .n))))
+
+reached-same : (m : ℕ) (p q : ℕ → ℕ → Bool) → ((i j : ℕ) → i < m → j < m → p i j ≡ q i j) → (i k : ℕ) → reached m p i k ≡ reached m q i k
+unfolding reached
+reached-same m p q h i zero = refl
+reached-same m p q h i (suc k) =
+    let e = reached-same m p q h i k in
+    tab-ext m _ _ λ j lj. ap₂ (λ (a b : Bool). bit (a or b)) (ap (λ (r : List ℕ). marked r j) e)
+    (any-ext m _ _ λ f lf. ap₂ _and_ (ap (λ (r : List ℕ). marked r f) e) (h f j lf lj))
+
+-- the same cells
+module _ (g : Grid) (cell : ℕ → ℕ → ℕ) (same : (i c : ℕ) → i < g .m → c < g .n → g .cell i c ≡ cell i c) where
+  conflicts : (i j c : ℕ) → i < g .m → j < g .m → c < g .n → callsConflict (g .cell i c) (g .cell j c) ≡ callsConflict (cell i c) (cell j c)
+  conflicts i j c hi hj hc = ap₂ callsConflict (same i c hi hc) (same j c hj hc)
+
+  haplotype-cells : (cols sides : List ℕ) (s c : ℕ) → c < g .n → haplotype g cols sides s c ≡ haplotype (withCells g cell) cols sides s c
+  unfolding haplotype withCells
+  haplotype-cells cols sides s c hc =
+      ap (λ (l : List ℕ). if marked cols c then first isCall l 0 else 3)
+      (tab-ext (g .m) _ _ λ i hi. ap (λ (x : ℕ). if getD sides i 0 == s then x else 0) (same i c hi hc))
+
+  block-cells : (cols sides : List ℕ) (i : ℕ) → block g cols sides i ≡ block (withCells g cell) cols sides i
+  unfolding block lowest withCells linked
+  block-cells cols sides i =
+      ap (λ (r : List ℕ). if marked sides i then firstBelow (g .m) (marked r) else 255)
+      (reached-same (g .m) (linked g cols sides) (linked (withCells g cell) cols sides)
+      (λ i j hi hj. ap (λ (b : Bool). marked sides i and marked sides j and b)
+      (any-ext (g .n) _ _ λ c hc. ap₂ (λ (x y : ℕ). marked cols c and isCall x and isCall y) (same i c hi hc) (same j c hj hc))) i (g .m))
+
+  pub answer-cells : (cols sides : List ℕ) → answer g cols sides ≡ answer (withCells g cell) cols sides
+  unfolding answer haplotypes withCells
+  answer-cells cols sides =
+      ap₂ (λ (h b : List ℕ). cols ++ (h ++ (sides ++ b)))
+      (ap (λ (f : ℕ → List ℕ). concat (tab 2 f)) (fun-ext (λ h. tab-ext (g .n) _ _ (haplotype-cells cols sides (suc h)))))
+      (tab-ext (g .m) _ _ λ i hi. block-cells cols sides i)
+
+  -- check's, S's and F's answers
+  pub check-cells : checkAnswer g ≡ checkAnswer (withCells g cell)
+  unfolding checkAnswer withCells
+  check-cells = ap (answer g (keepAll (g .n))) (firstSides-conflicts g cell conflicts 2 (keepAll (g .n)) (keepAll (g .m))) ∙ answer-cells (keepAll (g .n)) _
+
+  pub snpAnswer-cells : snpAnswer g ≡ snpAnswer (withCells g cell)
+  unfolding snpAnswer withCells
+  snpAnswer-cells =
+      let sides : (cols : List ℕ) → List ℕ = λ cols. firstSides 2 (withCells g cell) cols (keepAll (g .m)) in
+      ap (answer g (snpKeepMarks g)) (firstSides-conflicts g cell conflicts 2 (snpKeepMarks g) (keepAll (g .m)))
+      ∙ ap (λ (cols : List ℕ). answer g cols (sides cols)) (snp-conflicts g cell conflicts)
+      ∙ answer-cells _ _
+
+  pub fragmentAnswer-cells : fragmentAnswer g ≡ fragmentAnswer (withCells g cell)
+  unfolding fragmentAnswer withCells
+  fragmentAnswer-cells =
+      let sides : (frags : List ℕ) → List ℕ = λ frags. firstSides 2 (withCells g cell) (keepAll (g .n)) frags in
+      ap (answer g (keepAll (g .n))) (firstSides-conflicts g cell conflicts 2 (keepAll (g .n)) (fragmentKeepMarks g))
+      ∙ ap (λ (frags : List ℕ). answer g (keepAll (g .n)) (sides frags)) (fragment-conflicts g cell conflicts)
+      ∙ answer-cells _ _

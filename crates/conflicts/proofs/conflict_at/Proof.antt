@@ -1,0 +1,47 @@
+-- `conflicts::conflict_at` meets its contract.
+-- Assumes nothing.
+use mathlib.Core.Path.{sym, ap₂, _∙_}
+use Prim.Native.Nat.{_+_, _*_}
+use lib.ListN.{getD}
+use borrow.Author.Needs.{needs}
+use Rattle.conflicts.specs.Choice.{marked}
+use Rattle.conflicts.specs.Grid.{callsConflict}
+use Rattle.conflicts.proofs.MarkLaws.{unmarked, marked-test}
+use Rattle.conflicts.proofs.conflict_at.Statement.{statement}
+use Rattle.conflicts.proofs.conflict_at.Tie as tie
+
+byte-requires : tie.Need-byte-requires
+byte-requires c κs = search needs
+
+returns : tie.Need-returns
+unfolding marked
+returns c = unmarked _ _ (sym (c .before .byte .ensures) ∙ c .if1 .taken)
+
+cell-at-requires : tie.Need-cell-at-requires
+cell-at-requires c κs = search needs
+
+cell-at-requires-2 : tie.Need-cell-at-requires-2
+cell-at-requires-2 c κs = search needs
+
+calls-conflict-requires : tie.Need-calls-conflict-requires
+calls-conflict-requires c κs = search needs
+
+returns-2 : tie.Need-returns-2
+unfolding marked
+returns-2 c =
+    let a = c .before .before .before .before .before .before .before .args in
+    let b = callsConflict (getD (a .cells .now) (a .i * 128 + a .c) 0) (getD (a .cells .now) (a .j * 128 + a .c) 0) in
+    c .calls-conflict .ensures
+    ∙ ap₂ callsConflict (c .before .before .cell-at .ensures) (c .before .cell-at2 .ensures)
+    ∙ marked-test (getD (a .marks .now) (a .c) 0) b (λ e. c .before .before .before .if1 .left (c .before .before .before .before .byte .ensures ∙ e))
+
+pub conflict-at-spec : {M : Type 1} → statement M
+conflict-at-spec =
+    tie.close
+    (tie.spec
+    byte-requires
+    returns
+    cell-at-requires
+    cell-at-requires-2
+    calls-conflict-requires
+    returns-2)

@@ -1,0 +1,61 @@
+-- The SNP matrix, and conflicts in it (paper 001, section 3; paper 01, "What the words mean").
+-- Assumes nothing.
+use Prim.Native.Nat.{ℕ, _+_, _*_}
+use mathlib.Core.Bool.{Bool}
+use mathlib.Core.List.{List}
+use lib.ListN.{getD}
+use Rattle.records.specs.Below.{_==_, _and_, _or_, isnt, allBelow, anyBelow, countBelow}
+use Rattle.records.specs.Record.{isCall, codeAt}
+use Rattle.records.specs.Table.{fragments, recordAt}
+use Rattle.records.specs.Rules.{gapIn}
+use Rattle.conflicts.specs.Choice.{marked}
+
+-- "SNP matrix": m fragments, n columns, and the code of each fragment at each column: 0 hole, 1 A, 2 B
+pub record Grid : Type 0 where
+  pub m : ℕ
+  pub n : ℕ
+  pub cell : ℕ → ℕ → ℕ
+
+-- the matrix of a table with n columns, read from the table's bytes
+unfoldable pub gridOf : ℕ → List ℕ → Grid
+gridOf n table = record { m = fragments table; n = n; cell = λ i c. codeAt (recordAt table i) c }
+
+-- the matrix of a flat list of cells, 128 to a fragment
+unfoldable pub matrixGrid : ℕ → ℕ → List ℕ → Grid
+matrixGrid m n cells = record { m = m; n = n; cell = λ i c. getD cells (i * 128 + c) 0 }
+
+-- a matrix of the same size with other cells
+unfoldable pub withCells : Grid → (ℕ → ℕ → ℕ) → Grid
+withCells g cell = record { m = g .m; n = g .n; cell = cell }
+
+-- "one calls A and the other B"
+unfoldable pub callsConflict : ℕ → ℕ → Bool
+callsConflict x y = x == 1 and y == 2 or x == 2 and y == 1
+
+-- "two fragments conflict on a column"
+unfoldable pub conflictOn : Grid → ℕ → ℕ → ℕ → Bool
+conflictOn g c i j = callsConflict (g .cell i c) (g .cell j c)
+
+-- "they conflict if some column has this"
+unfoldable pub conflict : Grid → ℕ → ℕ → Bool
+conflict g i j = anyBelow (g .n) (λ c. conflictOn g c i j)
+
+-- two fragments "agree" if they do not conflict
+unfoldable pub agree : Grid → ℕ → ℕ → Bool
+agree g i j = isnt (conflict g i j)
+
+-- two fragments conflict on a kept column
+unfoldable pub conflictOnKept : Grid → List ℕ → ℕ → ℕ → Bool
+conflictOnKept g keepCols i j = anyBelow (g .n) (λ c. marked keepCols c and conflictOn g c i j)
+
+-- "a column is mixed if both A and B occur in it"
+unfoldable pub mixed : Grid → ℕ → Bool
+mixed g c = anyBelow (g .m) (λ i. g .cell i c == 1) and anyBelow (g .m) (λ i. g .cell i c == 2)
+
+-- "gapless if no fragment has a hole between two calls"
+unfoldable pub gapless : Grid → Bool
+gapless g = allBelow (g .m) (λ i. isnt (gapIn (g .n) (g .cell i)))
+
+-- the "calls in a column"
+unfoldable pub depth : Grid → ℕ → ℕ
+depth g c = countBelow (g .m) (λ i. isCall (g .cell i c))

@@ -1,0 +1,12 @@
+pub mod Choice
+pub mod Grid
+pub mod Tally
+pub mod Sides
+pub mod Removal
+pub mod Corrections
+pub mod Haplotypes
+pub mod Blocks
+pub mod Answer
+pub mod Phased
+pub mod Minimality
+pub mod Services

@@ -1,0 +1,167 @@
+-- The seven services: the rules of each in the order in which they are tested, and everything that a call leaves (paper 01, "Refused tables").
+-- Assumes nothing.
+use Prim.Native.Nat.{ℕ, zero, suc, _+_, _*_}
+use mathlib.Core.List.{List, [], _∷_}
+use lib.ListN.{length, getD, replicate}
+use Rattle.records.specs.Below.{if_then_else_, _==_, _<?_, isnt, anyBelow, tab, concat}
+use Rattle.records.specs.Table.{fragments, partStart, partLength, position, unpackedCells, unpackedTags}
+use Rattle.records.specs.Writing.{callsSpan, rowOf, packed}
+use Rattle.records.specs.Outcome.{Verdict, accepted, refused}
+use Rattle.records.specs.Rules.{Rule, rule, decide, gapIn, sizeRules, tableRules}
+use Rattle.conflicts.specs.Choice.{zeros, keepAll}
+use Rattle.conflicts.specs.Grid.{Grid, gridOf, depth}
+use Rattle.conflicts.specs.Sides.{errorFree}
+use Rattle.conflicts.specs.Removal.{snpKeepMarks, fragmentKeepMarks}
+use Rattle.conflicts.specs.Corrections.{changedCells}
+use Rattle.conflicts.specs.Answer.{answerSize, checkAnswer, snpAnswer, fragmentAnswer, correctionAnswer, correctedTable}
+
+-- ---- the stages of the rules; records' sizeRules and tableRules are two more
+
+-- 10, "short work": work under 32,768 numbers
+unfoldable pub workRules : List ℕ → List Rule
+workRules work = rule 10 0 (length work <? 32768) ∷ []
+
+-- 11, "wrong buffer": an output's length is not exact
+unfoldable pub lengthRule : List ℕ → ℕ → Rule
+lengthRule output exact = rule 11 0 (isnt (length output == exact))
+
+-- 12, "too deep": over 8 calls in a column
+unfoldable pub depthRules : Grid → List Rule
+depthRules g = tab (g .n) (λ c. rule 12 c (8 <? depth g c))
+
+-- pack's sizes: 3; 1, "cells not m × n"; 2
+unfoldable pub packSizeRules : ℕ → List ℕ → List ℕ → List Rule
+packSizeRules n cells tags = rule 3 0 (128 <? n) ∷ rule 1 0 (isnt (length cells == length tags * n)) ∷ rule 2 0 (128 <? length tags) ∷ []
+
+-- pack's fragment i: 6, "a cell over 2"; 4, "calls reach over more than 96 columns"; 8; 9
+unfoldable pub fragmentRules : ℕ → List ℕ → List ℕ → ℕ → List Rule
+fragmentRules n cells tags i =
+    rule 6 i (anyBelow n (λ c. 2 <? rowOf n cells i c))
+    ∷ rule 4 i (96 <? callsSpan n (rowOf n cells i))
+    ∷ rule 8 i (gapIn n (rowOf n cells i))
+    ∷ rule 9 i (anyBelow i (λ h. getD tags h 0 == getD tags i 0))
+    ∷ []
+
+-- ---- the rules of each service
+
+unfoldable pub unpackRules : ℕ → List ℕ → List ℕ → List ℕ → List Rule
+unpackRules n table cells tags =
+    concat (sizeRules n table ∷ (lengthRule cells (fragments table * n) ∷ lengthRule tags (fragments table) ∷ []) ∷ tableRules n table ∷ [])
+
+unfoldable pub packRules : ℕ → List ℕ → List ℕ → List ℕ → List Rule
+packRules n cells tags table =
+    concat (packSizeRules n cells tags ∷ (lengthRule table (32 * length tags) ∷ []) ∷ tab (length tags) (fragmentRules n cells tags))
+
+unfoldable pub checkRules : ℕ → List ℕ → List ℕ → List Rule
+checkRules n table answer = concat (sizeRules n table ∷ (lengthRule answer (answerSize (fragments table) n) ∷ []) ∷ tableRules n table ∷ [])
+
+-- S's and F's
+unfoldable pub removalRules : ℕ → List ℕ → List ℕ → List ℕ → List Rule
+removalRules n table answer work =
+    concat (sizeRules n table ∷ workRules work ∷ (lengthRule answer (answerSize (fragments table) n) ∷ []) ∷ tableRules n table ∷ [])
+
+unfoldable pub correctionRules : ℕ → List ℕ → List ℕ → List ℕ → List ℕ → List Rule
+correctionRules n table answer output work =
+    concat (sizeRules n table
+    ∷ workRules work
+    ∷ (lengthRule answer (answerSize (fragments table) n) ∷ lengthRule output (32 * fragments table) ∷ [])
+    ∷ tableRules n table
+    ∷ depthRules (gridOf n table)
+    ∷ [])
+
+-- ---- what a buffer holds after a call
+
+-- "a refusal writes nothing"
+abbrev pub written : Verdict → List ℕ → List ℕ → List ℕ
+written (accepted count) new old = new
+written (refused number place) new old = old
+
+-- "a no from check leaves the answer untouched"
+abbrev pub writtenOnYes : Verdict → List ℕ → List ℕ → List ℕ
+writtenOnYes (accepted zero) new old = new
+writtenOnYes (accepted (suc count)) new old = old
+writtenOnYes (refused number place) new old = old
+
+-- the work buffer, "all zero after acceptance"
+abbrev pub workAfter : Verdict → List ℕ → List ℕ
+workAfter (accepted count) old = replicate (length old) 0
+workAfter (refused number place) old = old
+
+-- ---- everything that a call leaves, from what it is given; the last arguments are the lent buffers before the call
+
+pub record Unpacked : Type 0 where
+  pub outcome : Verdict
+  pub cells : List ℕ
+  pub tags : List ℕ
+
+-- unpack: "m × n cells, one byte each by fragment and then column, and m tags"; "unpack and pack return m"
+unfoldable pub unpackLeaves : ℕ → List ℕ → List ℕ → List ℕ → Unpacked
+unpackLeaves n table cells tags =
+    let v = decide (unpackRules n table cells tags) (accepted (fragments table)) in
+    record { outcome = v; cells = written v (unpackedCells n table) cells; tags = written v (unpackedTags table) tags }
+
+pub record Packed : Type 0 where
+  pub outcome : Verdict
+  pub table : List ℕ
+
+-- pack: "the reverse; its m is the number of tags given"
+unfoldable pub packLeaves : ℕ → List ℕ → List ℕ → List ℕ → Packed
+packLeaves n cells tags table =
+    let v = decide (packRules n cells tags table) (accepted (length tags)) in
+    record { outcome = v; table = written v (packed n cells tags) table }
+
+pub record Found : Type 0 where
+  pub start : ℕ
+  pub count : ℕ
+
+-- find: where the bytes that it hands back start in the table, and how many they are; "find refuses nothing"
+unfoldable pub findLeaves : ℕ → List ℕ → Found
+findLeaves tag table = record { start = partStart table (position tag table); count = partLength table (position tag table) }
+
+pub record Checked : Type 0 where
+  pub outcome : Verdict
+  pub answer : List ℕ
+
+-- check: "0 for yes and 1 for no"
+unfoldable pub checkLeaves : ℕ → List ℕ → List ℕ → Checked
+checkLeaves n table answer =
+    let g = gridOf n table in
+    let v = decide (checkRules n table answer) (accepted (if errorFree 2 g (keepAll (g .n)) (keepAll (g .m)) then 0 else 1)) in
+    record { outcome = v; answer = writtenOnYes v (checkAnswer g) answer }
+
+pub record Removed : Type 0 where
+  pub outcome : Verdict
+  pub answer : List ℕ
+  pub work : List ℕ
+
+-- S: "the count returned equals the 0 marks"
+unfoldable pub snpRemovalLeaves : ℕ → List ℕ → List ℕ → List ℕ → Removed
+snpRemovalLeaves n table answer work =
+    let g = gridOf n table in
+    let v = decide (removalRules n table answer work) (accepted (zeros (snpKeepMarks g))) in
+    record { outcome = v; answer = written v (snpAnswer g) answer; work = workAfter v work }
+
+-- F: "the 0 sides"
+unfoldable pub fragmentRemovalLeaves : ℕ → List ℕ → List ℕ → List ℕ → Removed
+fragmentRemovalLeaves n table answer work =
+    let g = gridOf n table in
+    let v = decide (removalRules n table answer work) (accepted (zeros (fragmentKeepMarks g))) in
+    record { outcome = v; answer = written v (fragmentAnswer g) answer; work = workAfter v work }
+
+pub record CorrectionsLeft : Type 0 where
+  pub outcome : Verdict
+  pub answer : List ℕ
+  pub table : List ℕ
+  pub work : List ℕ
+
+-- C: "the changed cells", of its table against the one given
+unfoldable pub correctionsLeaves : ℕ → List ℕ → List ℕ → List ℕ → List ℕ → CorrectionsLeft
+correctionsLeaves n table answer output work =
+    let g = gridOf n table in
+    let v = decide (correctionRules n table answer output work) (accepted (changedCells g (gridOf n (correctedTable n table)))) in
+    record { outcome = v; answer = written v (correctionAnswer g) answer; table = written v (correctedTable n table) output; work = workAfter v work }
+
+-- the host's number: "0 for yes, 1 for no, 1,000 × number + place for a refusal"
+abbrev pub hostCode : Verdict → ℕ
+hostCode (accepted count) = count
+hostCode (refused number place) = 1000 * number + place
