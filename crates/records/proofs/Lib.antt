@@ -15,6 +15,7 @@ pub mod PackLaws
 pub mod SoundLaws
 pub mod TableLaws
 pub mod AcceptedLaws
+pub mod KeptLaws
 pub mod ScanLaws
 pub mod WritingLaws
 pub mod TrialTools

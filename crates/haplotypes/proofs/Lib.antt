@@ -1,0 +1,7 @@
+pub mod SizeLaws
+pub mod UnpackLaws
+pub mod FragmentLaws
+pub mod PackLaws
+pub mod RoundTrips
+pub mod CheckLaws
+pub mod HostLaws

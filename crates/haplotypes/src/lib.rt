@@ -1,0 +1,15 @@
+// The services: each tests its rules, in the paper's order, and writes only once all of them are kept.
+mod checking;
+mod finding;
+mod host;
+mod packing;
+mod repacking;
+mod room;
+mod unpacking;
+
+pub use checking::check;
+pub use finding::find;
+pub use host::haplotypes_check;
+pub use packing::pack;
+pub use repacking::repacked;
+pub use unpacking::unpack;

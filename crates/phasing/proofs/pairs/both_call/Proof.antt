@@ -1,0 +1,22 @@
+-- `phasing::pairs::both_call` meets its contract.
+-- Assumes nothing.
+use borrow.Author.Needs.{needs}
+use mathlib.Core.Path.{sym, _∙_}
+use Rattle.phasing.proofs.PairLaws.{and-true, and-false}
+use Rattle.phasing.proofs.pairs.both_call.Statement.{statement}
+use Rattle.phasing.proofs.pairs.both_call.Tie as tie
+
+is-call-requires : tie.Need-is-call-requires
+is-call-requires c κs = search needs
+
+is-call-requires-2 : tie.Need-is-call-requires-2
+is-call-requires-2 c κs = search needs
+
+returns : tie.Need-returns
+returns c = c .is-call2 .ensures ∙ and-true _ (sym (c .before .before .is-call .ensures) ∙ c .before .if1 .taken)
+
+returns-2 : tie.Need-returns-2
+returns-2 c = and-false _ (sym (c .before .is-call .ensures) ∙ c .if1 .left)
+
+pub both-call-spec : {M : Type 1} → statement M
+both-call-spec = tie.close (tie.spec is-call-requires is-call-requires-2 returns returns-2)

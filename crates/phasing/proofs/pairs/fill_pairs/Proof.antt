@@ -1,0 +1,54 @@
+-- `phasing::pairs::fill_pairs` meets its contract. The invariant: the places passed hold their marks.
+-- Assumes nothing.
+use borrow.Author.Needs.{needs}
+use Prim.Native.Nat.{_-_}
+use Rattle.records.proofs.FillLaws.{Filled, filled-none, filled-all}
+use Rattle.conflicts.specs.Grid.{matrixGrid}
+use Rattle.phasing.specs.Related.{related, pairMatrix}
+use Rattle.phasing.proofs.MatrixLaws.{entry, pair-more}
+use Rattle.phasing.proofs.pairs.fill_pairs.Statement.{statement}
+use Rattle.phasing.proofs.pairs.fill_pairs.Tie as tie
+
+abbrev Inv-loop : tie.InvT-loop
+Inv-loop blocks n cells cols frags matrix₀ k₀ matrix k = Filled 16384 (entry blocks (matrixGrid 0 n cells) cols frags) k matrix
+
+abbrev μ-loop : tie.MeasureT-loop
+μ-loop blocks n cells cols frags matrix₀ k₀ matrix k = 16384 - k
+
+loop-holds : tie.Need-loop-holds Inv-loop μ-loop
+loop-holds c = filled-none 16384 _ _ (c .before .before .before .before .pre .3)
+
+set-pair-requires : tie.Need-set-pair-requires Inv-loop μ-loop
+set-pair-requires c κs = let e = c .before .before .loop .inv .sized in search needs
+
+add-k : tie.Need-add-k Inv-loop μ-loop
+add-k c = search needs
+
+loop-less : tie.Need-loop-less Inv-loop μ-loop
+loop-less c = search needs
+
+loop-again : tie.Need-loop-again Inv-loop μ-loop
+loop-again c =
+    let a = c .before .before .before .before .before .before .before .before .before .before .args in
+    pair-more (a .blocks) (matrixGrid 0 (a .n) (a .cells .now)) (a .cols .now) (a .frags .now) (c .before .before .before .before .before .loop .inv) (c .before .before .before .before .loop-test .taken) (c .before .before .set-pair .ensures 0)
+
+same-length : tie.Need-same-length Inv-loop μ-loop
+same-length c = let e = c .before .loop .inv .sized in search needs
+
+returns : tie.Need-returns Inv-loop μ-loop
+unfolding pairMatrix related matrixGrid
+returns c = λ m. filled-all 16384 _ (c .before .loop .k) (c .before .loop .matrix) (c .before .loop .inv) (c .loop-test .left)
+
+pub fill-pairs-spec : {M : Type 1} → statement M
+fill-pairs-spec =
+    tie.close
+    (tie.spec
+    Inv-loop
+    μ-loop
+    loop-holds
+    set-pair-requires
+    add-k
+    loop-less
+    loop-again
+    same-length
+    returns)
