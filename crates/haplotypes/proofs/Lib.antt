@@ -4,4 +4,6 @@ pub mod FragmentLaws
 pub mod PackLaws
 pub mod RoundTrips
 pub mod CheckLaws
+pub mod RemovalLaws
+pub mod TableRemovalLaws
 pub mod HostLaws

@@ -6,10 +6,18 @@ use mathlib.Core.List.{List}
 use Prim.Native.Nat.{ℕ}
 use Rattle.records.specs.Outcome.{Verdict, accepted}
 use Rattle.conflicts.specs.Grid.{gridOf}
-use Rattle.conflicts.specs.Minimality.{AgreeingClasses, ErrorFree}
+use Rattle.conflicts.specs.Minimality.{AgreeingClasses, ErrorFree, SnpRemoval, FragmentRemoval}
 
 -- "check says yes if two classes of agreeing fragments exist, and no if not"; on a yes the answer is that of the first lawful sides
 pub record CheckSays (n : ℕ) (table answer : List ℕ) (verdict : Verdict) : Type 0 where
   pub yes : (count : ℕ) → verdict ≡ accepted count → (count ≡ 0) ↔ AgreeingClasses (gridOf n table)
   pub no : (count : ℕ) → verdict ≡ accepted count → (AgreeingClasses (gridOf n table) → ⊥) → count ≡ 1
   pub phased : verdict ≡ accepted 0 → ErrorFree (gridOf n table) answer
+
+-- S's number and answer, as demand 3 has them: every set of columns that works has at least as many; the set handed back works, is exactly that many, and is the first
+pub record SnpSays (n : ℕ) (table answer : List ℕ) (verdict : Verdict) : Type 0 where
+  pub least : (count : ℕ) → verdict ≡ accepted count → SnpRemoval (gridOf n table) answer count
+
+-- F's number and answer, the same for fragments
+pub record FragmentSays (n : ℕ) (table answer : List ℕ) (verdict : Verdict) : Type 0 where
+  pub least : (count : ℕ) → verdict ≡ accepted count → FragmentRemoval (gridOf n table) answer count

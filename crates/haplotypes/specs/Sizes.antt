@@ -7,7 +7,7 @@ use Prim.Native.Nat.{ℕ}
 use lib.ListN.{length}
 use Rattle.records.specs.Below.{tab, concat}
 use Rattle.records.specs.Table.{fragments}
-use Rattle.records.specs.Rules.{Rule, decide, sizeRules}
+use Rattle.records.specs.Rules.{Rule, decide, sizeRules, tableRules}
 use Rattle.records.specs.Outcome.{Verdict, accepted, refused}
 use Rattle.conflicts.specs.Services.{packSizeRules, fragmentRules}
 
@@ -31,3 +31,8 @@ pub record FragmentsKept (n : ℕ) (cells tags : List ℕ) : Type 0 where
 unfoldable pub refuses : Verdict → Bool
 refuses (accepted count) = false
 refuses (refused number place) = true
+
+-- rules 4 to 9 are kept by every record of a table
+pub record RecordsKept (n : ℕ) (table : List ℕ) : Type 0 where
+  pub count : ℕ
+  pub kept : decide (tableRules n table) (accepted (fragments table)) ≡ accepted count

@@ -22,3 +22,14 @@ pub fn all_kept() -> [u8; 128]
 {
     [1u8; 128]
 }
+
+// Sets every number of a work buffer to 0.
+pub fn clear(work: &mut [u16])
+    ensures { λ _. ⌜ now (work .exit) ≡ replicate (length (now (work .entry))) 0 ⌝ }
+{
+    let mut k = 0;
+    while k < work.len() {
+        work[k] = 0;
+        k += 1;
+    }
+}

@@ -4,7 +4,7 @@ use mathlib.Core.Path.{_≡_, sym, _∙_}
 use mathlib.Core.List.{List}
 use Prim.Native.Nat.{ℕ, _+_, _<_, _≤_}
 use native.Mathlib.Omega.{arith}
-use lib.ListN.{length, getD, set, length-set}
+use lib.ListN.{length, getD, set, replicate, length-set, length-replicate, getD-replicate}
 use lib.Seq.{getD-set-same, getD-set-other, ext-getD}
 use borrow.Author.Count.{below-more}
 use Rattle.records.specs.Below.{tab}
@@ -34,3 +34,9 @@ module _ (n : ℕ) (f : ℕ → ℕ) where
   filled-all k l filled h =
       ext-getD 0 l (tab n f) (filled .sized ∙ sym (length-tab n f))
       (λ j g. let s = filled .sized in let b : j < n = omega arith in filled .done j (omega arith) ∙ sym (getD-tab n f j 0 b))
+
+-- a table of one number
+pub tab-const : (n a : ℕ) → tab n (λ i. a) ≡ replicate n a
+tab-const n a =
+    ext-getD 0 _ (replicate n a) (length-tab n _ ∙ sym (length-replicate n a))
+    (λ i h. let l : i < n = rw (length-tab n) at h in getD-tab n (λ i. a) i 0 l ∙ sym (getD-replicate n i a 0 l))

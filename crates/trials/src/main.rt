@@ -1,8 +1,11 @@
 // Boundaries of the services, executed: each line is a call, its outcome, and whether it left the buffers that it was lent as they were.
 // Before a call every number of a lent buffer is 9.
 ghost use mathlib.Core.Path.{_≡_};
+ghost use Prim.Native.Nat.{_≤_};
 ghost use lib.ListN.{length};
 use haplotypes::find;
+use haplotypes::least_fragment_removal;
+use haplotypes::least_snp_removal;
 use haplotypes::pack;
 use haplotypes::unpack;
 use libc::STDOUT_FILENO;
@@ -400,6 +403,360 @@ fn finds() {
     call_find(b"the last of 130 records", 129, table, 4160);
 }
 
+// ---- S and F
+
+fn work_of(value: u16) -> [u16; 32800]
+    ensures { λ r. ⌜ 32800 ≡ length r ⌝ }
+{
+    [value; 32800]
+}
+
+fn nine_answer() -> [u8; 700]
+    ensures { λ r. ⌜ 700 ≡ length r ⌝ }
+{
+    [9u8; 700]
+}
+
+fn all_work(work: &[u16], value: u16) -> bool {
+    let mut k = 0;
+    while k < work.len() {
+        if work[k] != value {
+            return false;
+        }
+        k += 1;
+    }
+    true
+}
+
+// The digits of a part of the answer.
+fn digits(part: &[u8]) {
+    let mut k = 0;
+    while k < part.len() {
+        number(wide(part[k]));
+        k += 1;
+    }
+}
+
+// The keep marks and the sides of an answer for few columns and fragments.
+fn marks_and_sides(n: usize, m: usize, answer: &[u8]) {
+    if 12 < n {
+        return;
+    }
+    if 12 < m {
+        return;
+    }
+    let sides = 3 * n;
+    if answer.len() < sides + m {
+        return;
+    }
+    text(b" [");
+    digits(&answer[0..n]);
+    text(b" ");
+    digits(&answer[sides..sides + m]);
+    text(b"]");
+}
+
+// What a call of S or F left: keep marks, sides, whether the work is all zero, and the outcome.
+fn show_removal(label: &[u8], n: usize, m: usize, outcome: Outcome, work: &[u16], answer: &[u8]) {
+    text(label);
+    marks_and_sides(n, m, answer);
+    if all_work(work, 0) {
+        text(b", work zero");
+    }
+    let answer_left = all_nine(answer);
+    let work_left = all_work(work, 1);
+    result(outcome, answer_left && work_left);
+}
+
+fn run_snps(label: &[u8], n: usize, m: usize, table: &[u8], work: &mut [u16], answer: &mut [u8]) {
+    let outcome = least_snp_removal(n, table, work, answer);
+    text(b"S ");
+    show_removal(label, n, m, outcome, work, answer);
+}
+
+fn run_fragments(
+    label: &[u8],
+    n: usize,
+    m: usize,
+    table: &[u8],
+    work: &mut [u16],
+    answer: &mut [u8],
+) {
+    let outcome = least_fragment_removal(n, table, work, answer);
+    text(b"F ");
+    show_removal(label, n, m, outcome, work, answer);
+}
+
+// One call with work and answer of so many numbers. Before it the work is all 1 and the answer all 9.
+fn call_removal(
+    label: &[u8],
+    snps: bool,
+    n: usize,
+    m: usize,
+    table: [u8; 4160],
+    work_count: usize,
+    answer_count: usize,
+) {
+    let mut work = work_of(1);
+    let mut answer = nine_answer();
+    if 130 < m {
+        return;
+    }
+    if 32800 < work_count {
+        return;
+    }
+    if 700 < answer_count {
+        return;
+    }
+    let bytes = 32 * m;
+    if snps {
+        run_snps(
+            label,
+            n,
+            m,
+            &table[0..bytes],
+            &mut work[0..work_count],
+            &mut answer[0..answer_count],
+        );
+    } else {
+        run_fragments(
+            label,
+            n,
+            m,
+            &table[0..bytes],
+            &mut work[0..work_count],
+            &mut answer[0..answer_count],
+        );
+    }
+}
+
+// Record i of a table: tag i, and up to four cells.
+fn with_record(table: [u8; 4160], i: usize, start: u8, span: u8, cells: u8) -> [u8; 4160] {
+    if 129 < i {
+        return table;
+    }
+    let at = 32 * i;
+    let tagged = with_byte(table, at, (i % 256) as u8);
+    let started = with_byte(tagged, at + 4, start);
+    let spanned = with_byte(started, at + 6, span);
+    with_byte(spanned, at + 8, cells)
+}
+
+// AA-, BAA, -BB, the table that paper 01 prints, and the same in other orders of its records.
+fn printed(a: usize, b: usize, c: usize) -> [u8; 4160] {
+    with_record(
+        with_record(with_record(blank_table(0), a, 0, 2, 5), b, 0, 3, 22),
+        c,
+        1,
+        2,
+        10,
+    )
+}
+
+fn removal_sizes() {
+    let table = printed(0, 1, 2);
+    call_removal(b"work 32,768", true, 3, 3, table, 32768, 15);
+    call_removal(b"work 32,767", true, 3, 3, table, 32767, 15);
+    call_removal(b"longer work", true, 3, 3, table, 32800, 15);
+    call_removal(b"an answer byte too many", true, 3, 3, table, 32768, 16);
+    call_removal(b"an answer byte too few", true, 3, 3, table, 32768, 14);
+    call_removal(b"short work and a wrong answer", true, 3, 3, table, 0, 0);
+    call_removal(b"129 columns and short work", true, 129, 3, table, 0, 0);
+    call_removal(b"129 fragments", true, 3, 129, plain_table(), 32768, 267);
+    call_removal(b"work 32,768", false, 3, 3, table, 32768, 15);
+    call_removal(b"work 32,767", false, 3, 3, table, 32767, 15);
+    call_removal(b"an answer byte too few", false, 3, 3, table, 32768, 14);
+    call_removal(b"a refused record", false, 2, 3, table, 32768, 12);
+}
+
+// The same fragments in other record orders: the number stays, and the set is the first by record position.
+fn removal_orders() {
+    call_removal(
+        b"printed, -BB first",
+        true,
+        3,
+        3,
+        printed(1, 2, 0),
+        32768,
+        15,
+    );
+    call_removal(
+        b"printed, -BB first",
+        false,
+        3,
+        3,
+        printed(1, 2, 0),
+        32768,
+        15,
+    );
+    call_removal(
+        b"printed, BAA first",
+        false,
+        3,
+        3,
+        printed(2, 0, 1),
+        32768,
+        15,
+    );
+    let equal = with_record(
+        with_record(with_record(blank_table(0), 0, 0, 2, 5), 1, 0, 2, 5),
+        2,
+        0,
+        2,
+        5,
+    );
+    call_removal(b"equal fragments", false, 2, 3, equal, 32768, 12);
+    let square = with_record(
+        with_record(
+            with_record(with_record(blank_table(0), 0, 0, 2, 5), 1, 0, 2, 9),
+            2,
+            0,
+            2,
+            6,
+        ),
+        3,
+        0,
+        2,
+        10,
+    );
+    call_removal(b"AA, AB, BA, BB", true, 2, 4, square, 32768, 14);
+    call_removal(b"AA, AB, BA, BB", false, 2, 4, square, 32768, 14);
+}
+
+// AA, AB, BA with a column of As between or after them, or one that no one calls; a fragment without calls; short fragments inside a long one.
+fn removal_shapes() {
+    let between = with_record(
+        with_record(with_record(blank_table(0), 0, 0, 3, 21), 1, 0, 3, 37),
+        2,
+        0,
+        3,
+        22,
+    );
+    call_removal(b"an unmixed column between", true, 3, 3, between, 32768, 15);
+    let after = with_record(
+        with_record(with_record(blank_table(0), 0, 0, 2, 5), 1, 0, 2, 9),
+        2,
+        0,
+        2,
+        6,
+    );
+    call_removal(b"a column no one calls", true, 3, 3, after, 32768, 15);
+    call_removal(
+        b"a fragment without calls",
+        false,
+        2,
+        4,
+        with_record(after, 3, 0, 0, 0),
+        32768,
+        14,
+    );
+    let inside = with_record(
+        with_record(
+            with_record(with_record(blank_table(0), 0, 0, 4, 85), 1, 1, 1, 2),
+            2,
+            2,
+            1,
+            2,
+        ),
+        3,
+        1,
+        2,
+        9,
+    );
+    call_removal(
+        b"short fragments inside a long one",
+        false,
+        4,
+        4,
+        inside,
+        32768,
+        20,
+    );
+    call_removal(
+        b"96 columns of which 95 must go",
+        true,
+        96,
+        8,
+        pattern_table(),
+        32768,
+        304,
+    );
+    call_removal(
+        b"no fragments, no columns",
+        true,
+        0,
+        0,
+        blank_table(0),
+        32768,
+        0,
+    );
+    call_removal(
+        b"no fragments, no columns",
+        false,
+        0,
+        0,
+        blank_table(0),
+        32768,
+        0,
+    );
+}
+
+// B where a number is odd, else A.
+fn parity_code(x: usize) -> u8
+    ensures { λ r. ⌜ r ≤ 2 ⌝ }
+{
+    (1 + x % 2) as u8
+}
+
+// The code of fragment b at column c: A throughout for fragment 0, and for the others a bit of c + 1, so that every two columns conflict.
+fn pattern_code(b: usize, c: usize) -> u8
+    ensures { λ r. ⌜ r ≤ 2 ⌝ }
+{
+    if 95 < c {
+        return 0;
+    }
+    let x = c + 1;
+    if b < 4 {
+        return match b {
+            0 => 1,
+            1 => parity_code(x),
+            2 => parity_code(x / 2),
+            _ => parity_code(x / 4),
+        };
+    }
+    match b {
+        4 => parity_code(x / 8),
+        5 => parity_code(x / 16),
+        6 => parity_code(x / 32),
+        _ => parity_code(x / 64),
+    }
+}
+
+fn pattern_byte(b: usize, k: usize) -> u8 {
+    if 23 < k {
+        return 0;
+    }
+    let code0 = pattern_code(b, 4 * k);
+    let code1 = pattern_code(b, 4 * k + 1);
+    let code2 = pattern_code(b, 4 * k + 2);
+    let code3 = pattern_code(b, 4 * k + 3);
+    code0 + 4 * code1 + 16 * code2 + 64 * code3
+}
+
+// Eight fragments over 96 columns of which any two conflict.
+fn pattern_table() -> [u8; 4160] {
+    let mut table = [0u8; 4160];
+    let mut j = 0;
+    while j < 192 {
+        let b = j / 24;
+        table[32 * b] = (b % 256) as u8;
+        table[32 * b + 6] = 96;
+        table[32 * b + 8 + j % 24] = pattern_byte(b, j % 24);
+        j += 1;
+    }
+    table
+}
+
 fn main() {
     unpack_sizes();
     unpack_records();
@@ -407,4 +764,7 @@ fn main() {
     pack_sizes();
     pack_fragments();
     finds();
+    removal_sizes();
+    removal_orders();
+    removal_shapes();
 }

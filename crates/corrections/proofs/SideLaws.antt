@@ -1,0 +1,21 @@
+-- For a matrix, the least weight over the events holds C's side list and its cost.
+-- Assumes nothing.
+use mathlib.Core.Path.{_≡_}
+use Prim.Native.Nat.{_+_, _^_, _≤_, _<_}
+use Rattle.records.specs.Below.{tab}
+use Rattle.conflicts.specs.Grid.{Grid}
+use Rattle.conflicts.specs.Corrections.{sideCount, cost, leastCostSides}
+use Rattle.ranks.specs.declared.rank.Rank.{Rank}
+use Rattle.ranks.specs.Weight.{digitAt}
+use Rattle.ranks.specs.Reading.{code, value}
+use Rattle.events.specs.Events.{leastWeight, allFirst, events}
+use Rattle.events.specs.Weights.{sideWeight, columnWeight, costOf}
+use Rattle.events.proofs.LightestLaws.{rank-sides}
+use Rattle.corrections.specs.Columns.{startOf, covers, letterCount, columnCost}
+use Rattle.corrections.proofs.CoverLaws.{grid-starts, cost-local}
+
+pub least-sides : (g : Grid) → g .m ≤ 128 → (r : Rank) → r .high < 2 ^ 64 → r .low < 2 ^ 64
+    → value r ≡ leastWeight 2 sideWeight (columnWeight (columnCost 2 g)) (events (startOf g) (g .m) (g .n)) allFirst
+    → (tab (g .m) (λ p. 1 + digitAt (code r) p) ≡ leastCostSides 2 g) × (r .count ≡ cost 2 g (leastCostSides 2 g))
+unfolding leastCostSides cost costOf columnCost sideCount letterCount
+least-sides g small r hh hl e = rank-sides (g .m) (g .n) (startOf g) (covers g) (grid-starts g) (columnCost 2 g) (cost-local g 2) small r hh hl e

@@ -1,0 +1,62 @@
+-- `slots::slot_one` meets its contract.
+-- Assumes nothing.
+use mathlib.Core.Path.{sym, _∙_}
+use borrow.Author.Needs.{needs}
+use Rattle.conflicts.specs.Grid.{matrixGrid}
+use Rattle.corrections.proofs.GrantLaws.{grant, pass}
+use Rattle.corrections.proofs.slots.slot_one.Statement.{statement}
+use Rattle.corrections.proofs.slots.slot_one.Tie as tie
+
+mul-s : tie.Need-mul-s
+mul-s c = search needs
+
+shared-slice-read-s : tie.Need-shared-slice-read-s
+shared-slice-read-s c = search needs
+
+mul-free-slot : tie.Need-mul-free-slot
+mul-free-slot c = search needs
+
+add-free-slot : tie.Need-add-free-slot
+add-free-slot c = search needs
+
+free-slot-requires : tie.Need-free-slot-requires
+free-slot-requires c κs = let s = c .before .before .before .before .before .before .before in (s .pre .0, s .pre .1, s .pre .5 .size)
+
+mul-slots : tie.Need-mul-slots
+mul-slots c = search needs
+
+slice-write-slots : tie.Need-slice-write-slots
+slice-write-slots c = search needs
+
+same-length : tie.Need-same-length
+same-length c = search needs
+
+returns : tie.Need-returns
+unfolding matrixGrid
+returns c =
+    let s = c .before .before .before .before .before .before .before .before in
+    let a = s .args in
+    grant (matrixGrid (a .m) (a .n) (a .cells .now)) (s .pre .0 .rows) (a .slots .now) (a .c) (a .f) (c .free-slot .result) (s .pre .2) (s .pre .3) (s .pre .4)
+    (sym (s .pre .1 .begins (a .f) (s .pre .4)) ∙ c .before .before .if1 .taken) (c .free-slot .ensures) (s .pre .5)
+
+returns-2 : tie.Need-returns-2
+unfolding matrixGrid
+returns-2 c =
+    let s = c .before .before .before .before .before .before in
+    let a = s .args in
+    pass (matrixGrid (a .m) (a .n) (a .cells .now)) (s .pre .0 .rows) (a .slots .now) (a .c) (a .f) (s .pre .4) (λ e. c .if1 .left (s .pre .1 .begins (a .f) (s .pre .4) ∙ e)) (s .pre .5)
+
+pub slot-one-spec : {M : Type 1} → statement M
+slot-one-spec =
+    tie.close
+    (tie.spec
+    mul-s
+    shared-slice-read-s
+    mul-free-slot
+    add-free-slot
+    free-slot-requires
+    mul-slots
+    slice-write-slots
+    same-length
+    returns
+    returns-2)

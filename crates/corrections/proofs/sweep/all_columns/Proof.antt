@@ -1,0 +1,88 @@
+-- `sweep::all_columns` meets its contract. The loop's invariant: the table holds the least weights from column c on.
+-- Assumes nothing.
+use mathlib.Core.Path.{_≡_, subst}
+use Prim.Native.Nat.{ℕ, _+_, _-_, _≤_}
+use native.Mathlib.Nat.{le-refl}
+use native.Mathlib.Omega.{arith}
+use borrow.Author.Needs.{needs}
+use Rattle.conflicts.specs.Grid.{matrixGrid}
+use Rattle.ranks.specs.Tables.{at}
+use Rattle.events.specs.Events.{eventsFrom}
+use Rattle.corrections.specs.Columns.{startOf}
+use Rattle.corrections.specs.Sweep.{Patterns, HoldsAll}
+use Rattle.corrections.proofs.StepLaws.{holds-all}
+use Rattle.corrections.proofs.sweep.all_columns.Statement.{statement}
+use Rattle.corrections.proofs.sweep.all_columns.Tie as tie
+
+abbrev Inv-loop : tie.InvT-loop
+Inv-loop m n cells starts ends slots counts₀ highs₀ lows₀ c₀ counts highs lows c =
+    (c ≤ n) × Patterns counts highs lows
+    × HoldsAll (matrixGrid m n cells) slots (eventsFrom (startOf (matrixGrid m n cells)) m c (n - c)) (at counts highs lows)
+
+abbrev μ-loop : tie.MeasureT-loop
+μ-loop m n cells starts ends slots counts₀ highs₀ lows₀ c₀ counts highs lows c = c
+
+loop-holds : tie.Need-loop-holds Inv-loop μ-loop
+loop-holds c = let s = c .before .before .before .before .before .before .before in (le-refl _, s .pre .1, s .pre .2)
+
+sub-c : tie.Need-sub-c Inv-loop μ-loop
+sub-c c = search needs
+
+column-requires : tie.Need-column-requires Inv-loop μ-loop
+column-requires c κs =
+    let s = c .before .before .before .before .before .before .before .before .before .before .before .before in
+    let a = s .args in
+    let l = c .before .before .before .before .loop in
+    let le = l .inv .0 in
+    let some = c .before .before .before .loop-test .taken in
+    let e : l .c ≡ l .c - 1 + 1 = omega arith in (
+      s .pre .0,
+      l .inv .1,
+      omega arith,
+      subst (λ (x : ℕ). HoldsAll (matrixGrid (a .m) (a .n) (a .cells .now)) (a .slots .now) (eventsFrom (startOf (matrixGrid (a .m) (a .n) (a .cells .now))) (a .m) x (a .n - x)) (at (l .counts) (l .highs) (l .lows))) e (l .inv .2),
+    )
+
+loop-less : tie.Need-loop-less Inv-loop μ-loop
+loop-less c = search needs
+
+loop-again : tie.Need-loop-again Inv-loop μ-loop
+loop-again c =
+    let l = c .before .before .before .before .before .before .before .before .before .before .before .loop in
+    let le = l .inv .0 in (
+      omega arith,
+      record { counts-size = search needs; highs-size = search needs; lows-size = search needs },
+      c .before .before .before .before .before .before .column .ensures,
+    )
+
+same-length : tie.Need-same-length Inv-loop μ-loop
+same-length c = search needs
+
+same-length-2 : tie.Need-same-length-2 Inv-loop μ-loop
+same-length-2 c = search needs
+
+same-length-3 : tie.Need-same-length-3 Inv-loop μ-loop
+same-length-3 c = search needs
+
+returns : tie.Need-returns Inv-loop μ-loop
+unfolding matrixGrid
+returns c =
+    let s = c .before .before .before .before .before .before .before .before .before in
+    let a = s .args in
+    let l = c .before .loop in
+    holds-all (matrixGrid (a .m) (a .n) (a .cells .now)) (a .slots .now) (s .pre .0 .slotted) (l .c) (at (l .counts) (l .highs) (l .lows)) (omega arith) (l .inv .2)
+
+pub all-columns-spec : {M : Type 1} → statement M
+all-columns-spec =
+    tie.close
+    (tie.spec
+    Inv-loop
+    μ-loop
+    loop-holds
+    sub-c
+    column-requires
+    loop-less
+    loop-again
+    same-length
+    same-length-2
+    same-length-3
+    returns)

@@ -1,0 +1,10 @@
+pub mod LeastLaws
+pub mod EventLaws
+pub mod ColumnLaws
+pub mod TotalLaws
+pub mod DigitLaws
+pub mod SlotLaws
+pub mod FreeLaws
+pub mod GatherLaws
+pub mod ShapeLaws
+pub mod LightestLaws

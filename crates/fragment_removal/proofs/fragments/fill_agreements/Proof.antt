@@ -1,0 +1,66 @@
+-- `fragments::fill_agreements` meets its contract. The loop's invariant: the states below s are done.
+-- Assumes nothing.
+use mathlib.Core.Path.{_≡_}
+use Prim.Native.Nat.{_-_, _≤_}
+use native.Mathlib.Omega.{arith}
+use lib.ListN.{length}
+use borrow.Author.Needs.{needs}
+use Rattle.records.specs.Below.{bit}
+use Rattle.conflicts.specs.Grid.{matrixGrid}
+use Rattle.fragment_removal.specs.Fragments.{Begins, entries}
+use Rattle.fragment_removal.specs.Programme.{mayJoin}
+use Rattle.fragment_removal.proofs.OrderLaws.{begins-none, begins-more}
+use Rattle.fragment_removal.proofs.fragments.fill_agreements.Statement.{statement}
+use Rattle.fragment_removal.proofs.fragments.fill_agreements.Tie as tie
+
+abbrev Inv-loop : tie.InvT-loop
+Inv-loop m n cells order i agrees₀ states s₀ agrees s = (s ≤ states) × (length agrees ≡ 129) × Begins (λ q. bit (mayJoin (matrixGrid m n cells) (entries order) q i)) s agrees
+
+abbrev μ-loop : tie.MeasureT-loop
+μ-loop m n cells order i agrees₀ states s₀ agrees s = states - s
+
+add-states : tie.Need-add-states Inv-loop μ-loop
+add-states c = search needs
+
+loop-holds : tie.Need-loop-holds Inv-loop μ-loop
+loop-holds c = (search needs, search needs, begins-none _ _)
+
+may-join-requires : tie.Need-may-join-requires Inv-loop μ-loop
+may-join-requires c κs = let p = c .before .before .before .before .before .pre in (p .0, p .1, omega arith, p .2)
+
+slice-write-agrees : tie.Need-slice-write-agrees Inv-loop μ-loop
+slice-write-agrees c = let h = c .before .before .before .before .before .before .pre .0 .rows in omega arith
+
+add-s : tie.Need-add-s Inv-loop μ-loop
+add-s c = search needs
+
+loop-less : tie.Need-loop-less Inv-loop μ-loop
+loop-less c = search needs
+
+loop-again : tie.Need-loop-again Inv-loop μ-loop
+loop-again c =
+    let l = c .before .before .loop in
+    let h = c .before .before .before .before .before .before .pre .0 .rows in
+    (search needs, search needs, begins-more _ (l .s) (l .agrees) _ (l .inv .2) (omega arith) (c .may-join .ensures))
+
+same-length : tie.Need-same-length Inv-loop μ-loop
+same-length c = search needs
+
+returns : tie.Need-returns Inv-loop μ-loop
+returns c = let l = c .before .loop in record { begins = λ q h. l .inv .2 .begins q (omega arith) }
+
+pub fill-agreements-spec : {M : Type 1} → statement M
+fill-agreements-spec =
+    tie.close
+    (tie.spec
+    Inv-loop
+    μ-loop
+    add-states
+    loop-holds
+    may-join-requires
+    slice-write-agrees
+    add-s
+    loop-less
+    loop-again
+    same-length
+    returns)

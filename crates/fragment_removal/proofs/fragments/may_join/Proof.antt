@@ -1,0 +1,62 @@
+-- `fragments::may_join` meets its contract.
+-- Assumes nothing.
+use native.Mathlib.Omega.{arith}
+use borrow.Author.Needs.{needs}
+use Rattle.conflicts.specs.Grid.{matrixGrid}
+use Rattle.fragment_removal.specs.Fragments.{entries}
+use Rattle.fragment_removal.proofs.ReadLaws.{join-none, join-no, join-yes}
+use Rattle.fragment_removal.proofs.fragments.may_join.Statement.{statement}
+use Rattle.fragment_removal.proofs.fragments.may_join.Tie as tie
+
+returns : tie.Need-returns
+returns c = join-none _ _ _ _ (c .if1 .taken)
+
+sub-wide : tie.Need-sub-wide
+sub-wide c = search needs
+
+shared-slice-read-wide : tie.Need-shared-slice-read-wide
+shared-slice-read-wide c = let s = c .before .before .before .before .pre in let r = s .0 .rows in let z = s .1 .size in omega arith
+
+wide-requires : tie.Need-wide-requires
+wide-requires c κs = search needs
+
+shared-slice-read-wide-2 : tie.Need-shared-slice-read-wide-2
+shared-slice-read-wide-2 c = let s = c .before .before .before .before .before .before .pre in let r = s .0 .rows in let z = s .1 .size in omega arith
+
+wide-requires-2 : tie.Need-wide-requires-2
+wide-requires-2 c κs = search needs
+
+slice-aggregate-fragments-conflict : tie.Need-slice-aggregate-fragments-conflict
+slice-aggregate-fragments-conflict c = search needs
+
+fragments-conflict-requires : tie.Need-fragments-conflict-requires
+fragments-conflict-requires c κs = search needs
+
+returns-2 : tie.Need-returns-2
+unfolding matrixGrid
+returns-2 c =
+    let s = c .before .before .before .before .before .before .before .before .before .before in
+    let a = s .args in
+    join-no (matrixGrid (a .m) (a .n) (a .cells .now)) (entries (a .order .now)) (a .s) (a .i) _ _ (omega arith) (c .before .before .before .before .before .wide .ensures) (c .before .before .before .wide2 .ensures) (s .pre .0 .columns) (c .before .fragments-conflict .ensures (s .args .m)) (c .if2 .taken)
+
+returns-3 : tie.Need-returns-3
+unfolding matrixGrid
+returns-3 c =
+    let s = c .before .before .before .before .before .before .before .before .before .before in
+    let a = s .args in
+    join-yes (matrixGrid (a .m) (a .n) (a .cells .now)) (entries (a .order .now)) (a .s) (a .i) _ _ (omega arith) (c .before .before .before .before .before .wide .ensures) (c .before .before .before .wide2 .ensures) (s .pre .0 .columns) (c .before .fragments-conflict .ensures (s .args .m)) (c .if2 .left)
+
+pub may-join-spec : {M : Type 1} → statement M
+may-join-spec =
+    tie.close
+    (tie.spec
+    returns
+    sub-wide
+    shared-slice-read-wide
+    wide-requires
+    shared-slice-read-wide-2
+    wide-requires-2
+    slice-aggregate-fragments-conflict
+    fragments-conflict-requires
+    returns-2
+    returns-3)

@@ -1,0 +1,112 @@
+-- The table of the programme, one column more: its room, and what it holds.
+-- Assumes nothing.
+use mathlib.Core.Path.{_≡_, refl, sym, ap, subst, _∙_}
+use mathlib.Core.Bool.{Bool, true, false}
+use mathlib.Core.List.{List}
+use Prim.Native.Nat.{ℕ, zero, suc, _+_, _^_, _-_, _≤_, _<_, min, zero-le}
+use native.Mathlib.Nat.{two-pow-succ}
+use native.Mathlib.Numerals.{add-one}
+use native.Mathlib.Omega.{arith}
+use lib.Pow.{pow-mono, pow-pos}
+use Rattle.records.specs.Below.{if_then_else_}
+use Rattle.conflicts.specs.Grid.{Grid, matrixGrid, mixed}
+use Rattle.ranks.specs.declared.rank.Rank.{Rank}
+use Rattle.ranks.specs.Weight.{top, place, AtMost}
+use Rattle.ranks.specs.Reading.{code, value, SumFits}
+use Rattle.ranks.specs.Tables.{Sweep}
+use Rattle.ranks.proofs.WeightLaws.{atMost-more}
+use Rattle.ranks.proofs.TableLaws.{parts-small}
+use Rattle.snp_removal.specs.Columns.{callsBoth, columnsConflict, mayFollow}
+use Rattle.snp_removal.specs.Programme.{removal, choose, leastWeight, ifMixed, Room, Holds}
+use Rattle.snp_removal.proofs.ProgrammeLaws.{one, choose-small, programme-small}
+
+-- ---- room
+
+double-top : (i : ℕ) → i < 128 → place i + place i ≤ top
+unfolding top
+double-top i h = subst (λ (x : ℕ). x ≤ 2 ^ 128) (two-pow-succ (127 - i)) (pow-mono {i = suc (127 - i)} {j = 128} (omega arith))
+
+-- the weight of column i and one that has room for it add up
+pub sum-fits : (i : ℕ) (a b : Rank) {v : ℕ} → i < 128 → a .high < 2 ^ 64 → a .low < 2 ^ 64 → b .high < 2 ^ 64 → b .low < 2 ^ 64
+    → value a ≡ removal i → value b ≡ v → AtMost 127 (place i - 1) v → SumFits a b
+sum-fits i a b h ah al bh bl ea eb m =
+    let p = pow-pos (127 - i) in
+    let t = double-top i h in
+    let x = parts-small a ah al ea (one (place i)) (below (place i) top p t) in
+    let y = parts-small b bh bl eb m (below-less (place i) top p t) in
+    record { counts = small (x .0) (y .0); codes = total (code a) (code b) (place i) top p t (x .1) (y .1) }
+  where
+    below : (p t : ℕ) → 0 < p → p + p ≤ t → p < t
+    below p t pos le = omega arith
+
+    below-less : (p t : ℕ) → 0 < p → p + p ≤ t → p - 1 < t
+    below-less p t pos le = omega arith
+
+    small : {x y : ℕ} → x ≤ 1 → y ≤ 127 → x + y < 2 ^ 32
+    small hx hy = omega arith
+
+    total : (x y p t : ℕ) → 0 < p → p + p ≤ t → x ≤ p → y ≤ p - 1 → x + y < t
+    total x y p t pos le hx hy = omega arith
+
+-- the weight that the column makes has a count of 16 bits
+pub count-fits : (g : Grid) (i j : ℕ) (v : ℕ → ℕ) (r : Rank) → i < 128 → r .high < 2 ^ 64 → r .low < 2 ^ 64 → value r ≡ ifMixed g i v j
+    → AtMost 127 (place i - 1) (v j) → AtMost 127 (place i - 1) (v (i + 1)) → r .count < 65536
+count-fits g i j v r h hh hl e a b =
+    let p = pow-pos (127 - i) in
+    let t = double-top i h in
+    let x = parts-small r hh hl e (choose-small true (mayFollow g j i) p a b) (below (place i) top p t) in
+    short (x .0)
+  where
+    below : (p t : ℕ) → 0 < p → p + p ≤ t → p + p - 1 < t
+    below p t pos le = omega arith
+
+    short : {c : ℕ} → c ≤ 128 → c < 65536
+    short l = omega arith
+
+-- the lesser of removed and kept, where it may be kept
+pub mixed-weight : (g : Grid) (i j : ℕ) (v : ℕ → ℕ) (may : Bool) {x gone here out kept : ℕ} → may ≡ mayFollow g j i → here ≡ v j → out ≡ removal i → kept ≡ v (i + 1)
+    → gone ≡ out + here → x ≡ (if may then min gone kept else gone) → x ≡ ifMixed g i v j
+mixed-weight g i j v may em eh eo ek eg ex = ex ∙ rw (em, eg, eo, eh, ek)
+
+-- ---- what the table holds
+
+module _ (g : Grid) where
+  pub holds-none : (v : ℕ → ℕ) → ((j : ℕ) → v j ≡ 0) → Holds g 0 v
+  unfolding leastWeight
+  holds-none v zeros = record { holds = λ j le. zeros j }
+
+  module _ (k i : ℕ) (v : ℕ → ℕ) (inside : k < g .n) (is : i ≡ g .n - 1 - k) (held : Holds g k v) where
+    pub holds-room : g .n ≤ 128 → Room i v
+    holds-room small = record {
+      room = λ j le. subst (AtMost 127 (place i - 1)) (sym (held .holds j (omega arith))) (subst (λ (x : ℕ). AtMost 127 (2 ^ x - 1) (leastWeight g k j))
+          (let q : 128 - (g .n - k) ≡ 127 - i = omega arith in q) (atMost-more (omega arith) (omega arith) (programme-small g small k j (omega arith))));
+    }
+
+    opened : (j : ℕ) → leastWeight g (suc k) j ≡ choose (mixed g i) (mayFollow g j i) (removal i) (leastWeight g k (suc i)) (leastWeight g k j)
+    unfolding leastWeight
+    opened j = let at : i ≡ g .n - suc k = omega arith in rw at
+
+    -- a mixed column, and one that is not
+    pub holds-mixed : (w : ℕ → ℕ) → mixed g i ≡ true → Sweep (ifMixed g i v) v w 0 (i + 1) → Holds g (k + 1) w
+    holds-mixed w m s = record {
+      holds = λ j le.
+          let here : v j ≡ leastWeight g k j = held .holds j (omega arith) in
+          let next : v (i + 1) ≡ leastWeight g k (suc i) = held .holds (i + 1) (omega arith) ∙ ap (leastWeight g k) (add-one i) in
+          s .done j zero-le (omega arith) ∙ rw (here, next, add-one k, opened j, m);
+    }
+
+    pub holds-plain : mixed g i ≡ false → Holds g (k + 1) v
+    holds-plain m = record { holds = λ j le. held .holds j (omega arith) ∙ rw (add-one k, opened j, m) }
+
+-- what the column makes of the table as it is now, at the next state, is what it makes of the table as it was
+pub turn : (g : Grid) (i j : ℕ) {f old now : ℕ → ℕ} → Sweep f old now 0 j → j ≤ i → ifMixed g i now j ≡ ifMixed g i old j
+turn g i j s le = rw (s .rest j (λ lo hi. omega arith), s .rest (i + 1) (λ lo hi. omega arith))
+
+-- whether a column may follow does not hang on how many columns there are
+pub mixed-any : (m n n′ : ℕ) (cells : List ℕ) (i : ℕ) (v : ℕ → ℕ) (j : ℕ) → ifMixed (matrixGrid m n cells) i v j ≡ ifMixed (matrixGrid m n′ cells) i v j
+unfolding mayFollow columnsConflict callsBoth matrixGrid
+mixed-any m n n′ cells i v j = ap (λ (b : Bool). choose true b (removal i) (v (i + 1)) (v j)) (follows j)
+  where
+    follows : (j : ℕ) → mayFollow (matrixGrid m n cells) j i ≡ mayFollow (matrixGrid m n′ cells) j i
+    follows zero = refl
+    follows (suc a) = refl

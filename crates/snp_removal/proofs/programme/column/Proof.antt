@@ -1,0 +1,111 @@
+-- `programme::column` meets its contract. The loop's invariant: the states below j have the column before them, and the others not yet.
+-- Assumes nothing.
+use mathlib.Core.Path.{_≡_, refl, sym, subst, _∙_}
+use Prim.Native.Nat.{_+_, _-_, _≤_, zero-le}
+use native.Mathlib.Nat.{le-refl}
+use native.Mathlib.Omega.{arith}
+use lib.ListN.{length}
+use borrow.Author.Needs.{needs}
+use Rattle.conflicts.specs.Grid.{matrixGrid}
+use Rattle.ranks.specs.Weight.{place, AtMost}
+use Rattle.ranks.specs.Reading.{value}
+use Rattle.ranks.specs.Tables.{at, Sweep}
+use Rattle.ranks.proofs.TableLaws.{put-as, sweep-none, sweep-more, sweep-as}
+use Rattle.snp_removal.specs.Programme.{removal, ifMixed}
+use Rattle.snp_removal.proofs.StateLaws.{turn, mixed-any}
+use Rattle.snp_removal.proofs.programme.column.Statement.{statement}
+use Rattle.snp_removal.proofs.programme.column.Tie as tie
+
+abbrev Inv-loop : tie.InvT-loop
+Inv-loop m cells counts₀ highs₀ lows₀ i out next j₀ counts highs lows j =
+    (j ≤ next) × (length counts ≡ length counts₀) × (length highs ≡ length highs₀) × (length lows ≡ length lows₀) × (value out ≡ removal i)
+    × Sweep (ifMixed (matrixGrid m 0 cells) i (at counts₀ highs₀ lows₀)) (at counts₀ highs₀ lows₀) (at counts highs lows) 0 j
+
+abbrev μ-loop : tie.MeasureT-loop
+μ-loop m cells counts₀ highs₀ lows₀ i out next j₀ counts highs lows j = next - j
+
+single-requires : tie.Need-single-requires Inv-loop μ-loop
+single-requires c κs = search needs
+
+add-next : tie.Need-add-next Inv-loop μ-loop
+add-next c = search needs
+
+loop-holds : tie.Need-loop-holds Inv-loop μ-loop
+loop-holds c = (search needs, refl, refl, refl, c .single .ensures ∙ omega arith, sweep-none _ _ 0)
+
+weight-at-requires : tie.Need-weight-at-requires Inv-loop μ-loop
+weight-at-requires c κs =
+    let l = c .before .before .before .before .loop in
+    let s = c .before .before .before .before .before .before .before .before .before .before in
+    let i = s .args .i in
+    let s0 = l .inv .5 in (
+      s .pre .0,
+      s .pre .1,
+      s .pre .2,
+      search needs,
+      l .inv .4,
+      record { counts-size = search needs; highs-size = search needs; lows-size = search needs },
+      subst (AtMost 127 (place i - 1)) (sym (s0 .rest (l .j) (λ lo hi. omega arith))) (s .pre .4 .room (l .j) (omega arith)),
+      subst (AtMost 127 (place i - 1)) (sym (s0 .rest (i + 1) (λ lo hi. omega arith))) (s .pre .4 .room (i + 1) (le-refl (i + 1))),
+    )
+
+put-requires : tie.Need-put-requires Inv-loop μ-loop
+put-requires c κs = (record { in-counts = search needs; in-highs = search needs; in-lows = search needs }, c .before .before .before .weight-at .ensures .1)
+
+add-j : tie.Need-add-j Inv-loop μ-loop
+add-j c = search needs
+
+loop-less : tie.Need-loop-less Inv-loop μ-loop
+loop-less c = search needs
+
+loop-again : tie.Need-loop-again Inv-loop μ-loop
+loop-again c =
+    let l = c .before .before .before .before .before .before .before .before .before .before .before .before .before .before .before .loop in
+    let a = c .before .before .before .before .before .before .before .before .before .before .before .before .before .before .before .before .before .before .before .before .before .args in
+    let i = a .i in
+    let g = matrixGrid (a .m) 0 (a .cells .now) in (
+      search needs,
+      search needs,
+      search needs,
+      search needs,
+      l .inv .4,
+      sweep-more zero-le (l .inv .5)
+          (put-as (c .before .before .before .before .before .before .put .ensures .1)
+          (c .before .before .before .before .before .before .before .before .before .before .weight-at .ensures .0 0 ∙ turn g i (l .j) (l .inv .5) (omega arith))),
+    )
+
+same-length : tie.Need-same-length Inv-loop μ-loop
+same-length c = search needs
+
+same-length-2 : tie.Need-same-length-2 Inv-loop μ-loop
+same-length-2 c = search needs
+
+same-length-3 : tie.Need-same-length-3 Inv-loop μ-loop
+same-length-3 c = search needs
+
+returns : tie.Need-returns Inv-loop μ-loop
+returns c n =
+    let l = c .before .loop in
+    let a = c .before .before .before .before .before .before .before .args in
+    let v = at (a .counts .now) (a .highs .now) (a .lows .now) in
+    let e : l .j ≡ a .i + 1 = omega arith in
+    sweep-as (λ s. mixed-any (a .m) 0 n (a .cells .now) (a .i) v s) (subst (Sweep (ifMixed (matrixGrid (a .m) 0 (a .cells .now)) (a .i) v) v (at (l .counts) (l .highs) (l .lows)) 0) e (l .inv .5))
+
+pub column-spec : {M : Type 1} → statement M
+column-spec =
+    tie.close
+    (tie.spec
+    Inv-loop
+    μ-loop
+    single-requires
+    add-next
+    loop-holds
+    weight-at-requires
+    put-requires
+    add-j
+    loop-less
+    loop-again
+    same-length
+    same-length-2
+    same-length-3
+    returns)

@@ -1,0 +1,67 @@
+-- `programme::suffixes` meets its contract. The loop's invariant: the table holds the weights of the last k columns.
+-- Assumes nothing.
+use mathlib.Core.Path.{_≡_, refl, subst}
+use Prim.Native.Nat.{ℕ, _-_, _≤_}
+use native.Mathlib.Nat.{le-antisymm}
+use lib.ListN.{length}
+use borrow.Author.Needs.{needs}
+use Rattle.conflicts.specs.Grid.{matrixGrid}
+use Rattle.ranks.specs.Tables.{at}
+use Rattle.snp_removal.specs.Programme.{Holds}
+use Rattle.snp_removal.proofs.programme.suffixes.Statement.{statement}
+use Rattle.snp_removal.proofs.programme.suffixes.Tie as tie
+
+abbrev Inv-loop : tie.InvT-loop
+Inv-loop m n cells counts₀ highs₀ lows₀ k₀ counts highs lows k =
+    (k ≤ n) × (length counts ≡ length counts₀) × (length highs ≡ length highs₀) × (length lows ≡ length lows₀) × Holds (matrixGrid m n cells) k (at counts highs lows)
+
+abbrev μ-loop : tie.MeasureT-loop
+μ-loop m n cells counts₀ highs₀ lows₀ k₀ counts highs lows k = n - k
+
+loop-holds : tie.Need-loop-holds Inv-loop μ-loop
+loop-holds c = (search needs, refl, refl, refl, c .before .before .before .before .pre .4)
+
+extend-requires : tie.Need-extend-requires Inv-loop μ-loop
+extend-requires c κs =
+    let p = c .before .before .before .before .before .before .before .before .before .pre in
+    (p .0, p .1, p .2, search needs, record { counts-size = search needs; highs-size = search needs; lows-size = search needs }, c .before .before .before .before .loop .inv .4)
+
+add-k : tie.Need-add-k Inv-loop μ-loop
+add-k c = search needs
+
+loop-less : tie.Need-loop-less Inv-loop μ-loop
+loop-less c = search needs
+
+loop-again : tie.Need-loop-again Inv-loop μ-loop
+loop-again c = (search needs, search needs, search needs, search needs, c .before .before .before .before .before .before .extend .ensures)
+
+same-length : tie.Need-same-length Inv-loop μ-loop
+same-length c = search needs
+
+same-length-2 : tie.Need-same-length-2 Inv-loop μ-loop
+same-length-2 c = search needs
+
+same-length-3 : tie.Need-same-length-3 Inv-loop μ-loop
+same-length-3 c = search needs
+
+returns : tie.Need-returns Inv-loop μ-loop
+returns c =
+    let l = c .before .loop in
+    let a = c .before .before .before .before .before .before .args in
+    subst (λ (k : ℕ). Holds (matrixGrid (a .m) (a .n) (a .cells .now)) k (at (l .counts) (l .highs) (l .lows))) (le-antisymm (l .inv .0) (c .loop-test .left)) (l .inv .4)
+
+pub suffixes-spec : {M : Type 1} → statement M
+suffixes-spec =
+    tie.close
+    (tie.spec
+    Inv-loop
+    μ-loop
+    loop-holds
+    extend-requires
+    add-k
+    loop-less
+    loop-again
+    same-length
+    same-length-2
+    same-length-3
+    returns)

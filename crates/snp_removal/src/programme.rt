@@ -1,0 +1,103 @@
+// The programme over suffixes of the columns, in place: one least weight for each state (paper 001, section 5.1).
+use crate::columns;
+use ranks::rank::Rank;
+use ranks::table;
+ghost use mathlib.Core.Path.{_≡_};
+ghost use Prim.Native.Nat.{ℕ, _+_, _-_, _<_, _≤_};
+ghost use lib.ListN.{length};
+ghost use Rattle.records.specs.Below.{tab};
+ghost use Rattle.conflicts.specs.Grid.{matrixGrid};
+ghost use Rattle.ranks.specs.Weight.{place, digitAt, AtMost};
+ghost use Rattle.ranks.specs.Reading.{code, value};
+ghost use Rattle.ranks.specs.Tables.{at, Sweep};
+ghost use Rattle.snp_removal.specs.Programme.{removal, ifMixed, States, Room, Holds};
+
+// The least weight at state j with the mixed column i before the columns of the table, which costs `out` if it is removed.
+fn weight_at(
+    m: usize,
+    cells: &[u8],
+    counts: &[u16],
+    highs: &[u64],
+    lows: &[u64],
+    out: Rank,
+    i: usize,
+    j: usize,
+) -> Rank
+    requires { ⌜ (length (now cells) ≡ 16384) × (m ≤ 128) × (i < 128) × (j ≤ i) × (value out ≡ removal i) × States (now counts) (now highs) (now lows)
+        × AtMost 127 (place i - 1) (at (now counts) (now highs) (now lows) j) × AtMost 127 (place i - 1) (at (now counts) (now highs) (now lows) (i + 1)) ⌝ }
+    ensures { λ r. ⌜ ((n : ℕ) → value r ≡ ifMixed (matrixGrid m n (now (cells .entry))) i (at (now (counts .entry)) (now (highs .entry)) (now (lows .entry))) j) × (r .count < 65536) ⌝ }
+{
+    let here = table::get(counts, highs, lows, j);
+    let gone = out.plus(here);
+    let kept = table::get(counts, highs, lows, i + 1);
+    gone.lesser_if(columns::may_follow(m, cells, j, i), kept)
+}
+
+// The mixed column i, at every state before it.
+fn column(m: usize, cells: &[u8], counts: &mut [u16], highs: &mut [u64], lows: &mut [u64], i: usize)
+    requires { ⌜ (length (now cells) ≡ 16384) × (m ≤ 128) × (i < 128) × States (now counts) (now highs) (now lows) × Room i (at (now counts) (now highs) (now lows)) ⌝ }
+    ensures { λ _. ⌜ ((n : ℕ) → Sweep (ifMixed (matrixGrid m n (now (cells .entry))) i (at (now (counts .entry)) (now (highs .entry)) (now (lows .entry))))
+        (at (now (counts .entry)) (now (highs .entry)) (now (lows .entry))) (at (now (counts .exit)) (now (highs .exit)) (now (lows .exit))) 0 (i + 1)) ⌝ }
+{
+    let out = Rank::single(1, i);
+    let next = i + 1;
+    let mut j = 0;
+    while j < next {
+        let r = weight_at(m, cells, counts, highs, lows, out, i, j);
+        table::put(counts, highs, lows, j, r);
+        j += 1;
+    }
+}
+
+// One column more, before the last k.
+fn extend(
+    m: usize,
+    n: usize,
+    cells: &[u8],
+    counts: &mut [u16],
+    highs: &mut [u64],
+    lows: &mut [u64],
+    k: usize,
+)
+    requires { ⌜ (length (now cells) ≡ 16384) × (m ≤ 128) × (n ≤ 128) × (k < n) × States (now counts) (now highs) (now lows)
+        × Holds (matrixGrid m n (now cells)) k (at (now counts) (now highs) (now lows)) ⌝ }
+    ensures { λ _. ⌜ Holds (matrixGrid m n (now (cells .entry))) (k + 1) (at (now (counts .exit)) (now (highs .exit)) (now (lows .exit))) ⌝ }
+{
+    let i = n - 1 - k;
+    if columns::column_mixed(m, cells, i) {
+        column(m, cells, counts, highs, lows, i);
+    }
+}
+
+// All columns, from a table of zeros.
+pub(crate) fn suffixes(
+    m: usize,
+    n: usize,
+    cells: &[u8],
+    counts: &mut [u16],
+    highs: &mut [u64],
+    lows: &mut [u64],
+)
+    requires { ⌜ (length (now cells) ≡ 16384) × (m ≤ 128) × (n ≤ 128) × States (now counts) (now highs) (now lows)
+        × Holds (matrixGrid m n (now cells)) 0 (at (now counts) (now highs) (now lows)) ⌝ }
+    ensures { λ _. ⌜ Holds (matrixGrid m n (now (cells .entry))) n (at (now (counts .exit)) (now (highs .exit)) (now (lows .exit))) ⌝ }
+{
+    let mut k = 0;
+    while k < n {
+        extend(m, n, cells, counts, highs, lows, k);
+        k += 1;
+    }
+}
+
+// The keep marks of the set in a weight.
+pub(crate) fn decode(r: Rank, n: usize, keep: &mut [u8])
+    requires { ⌜ (n ≤ 128) × (length (now keep) ≡ n) ⌝ }
+    ensures { λ _. ⌜ now (keep .exit) ≡ tab n (λ p. 1 - digitAt (code r) p) ⌝ }
+{
+    let mut p = 0;
+    while p < n {
+        let d = r.digit(p);
+        keep[p] = 1 - d;
+        p += 1;
+    }
+}

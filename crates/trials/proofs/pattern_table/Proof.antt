@@ -1,0 +1,83 @@
+use Prim.Native.Nat.{_-_}
+use lib.ListN.{length}
+use mathlib.Core.Path.{_≡_}
+use borrow.Author.Needs.{needs}
+use Rattle.trials.proofs.pattern_table.Statement.{statement}
+use Rattle.trials.proofs.pattern_table.Tie as tie
+
+abbrev Inv-loop : tie.InvT-loop
+Inv-loop table₀ j₀ table j = length table ≡ 4160
+
+abbrev μ-loop : tie.MeasureT-loop
+μ-loop table₀ j₀ table j = 192 - j
+
+loop-holds : tie.Need-loop-holds Inv-loop μ-loop
+loop-holds c = search needs
+
+cast-table : tie.Need-cast-table Inv-loop μ-loop
+cast-table c = search needs
+
+mul-table : tie.Need-mul-table Inv-loop μ-loop
+mul-table c = search needs
+
+array-write-table : tie.Need-array-write-table Inv-loop μ-loop
+array-write-table c = search needs
+
+mul-table-2 : tie.Need-mul-table-2 Inv-loop μ-loop
+mul-table-2 c = search needs
+
+add-table : tie.Need-add-table Inv-loop μ-loop
+add-table c = search needs
+
+array-write-table-2 : tie.Need-array-write-table-2 Inv-loop μ-loop
+array-write-table-2 c = search needs
+
+pattern-byte-requires : tie.Need-pattern-byte-requires Inv-loop μ-loop
+pattern-byte-requires c κs = search needs
+
+mul-table-3 : tie.Need-mul-table-3 Inv-loop μ-loop
+mul-table-3 c = search needs
+
+add-table-2 : tie.Need-add-table-2 Inv-loop μ-loop
+add-table-2 c = search needs
+
+add-table-3 : tie.Need-add-table-3 Inv-loop μ-loop
+add-table-3 c = search needs
+
+array-write-table-3 : tie.Need-array-write-table-3 Inv-loop μ-loop
+array-write-table-3 c = search needs
+
+add-j : tie.Need-add-j Inv-loop μ-loop
+add-j c = search needs
+
+loop-less : tie.Need-loop-less Inv-loop μ-loop
+loop-less c = search needs
+
+loop-again : tie.Need-loop-again Inv-loop μ-loop
+loop-again c = search needs
+
+returns : tie.Need-returns Inv-loop μ-loop
+returns c = search needs
+
+pub pattern-table-spec : {M : Type 1} → statement M
+pattern-table-spec =
+    tie.close
+    (tie.spec
+    Inv-loop
+    μ-loop
+    loop-holds
+    cast-table
+    mul-table
+    array-write-table
+    mul-table-2
+    add-table
+    array-write-table-2
+    pattern-byte-requires
+    mul-table-3
+    add-table-2
+    add-table-3
+    array-write-table-3
+    add-j
+    loop-less
+    loop-again
+    returns)
