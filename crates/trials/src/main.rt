@@ -673,13 +673,13 @@ fn removal_shapes() {
         20,
     );
     call_removal(
-        b"96 columns of which 95 must go",
+        b"127 mixed columns of which 125 must go",
         true,
-        96,
-        8,
+        128,
+        16,
         pattern_table(),
         32768,
-        304,
+        416,
     );
     call_removal(
         b"no fragments, no columns",
@@ -708,50 +708,49 @@ fn parity_code(x: usize) -> u8
     (1 + x % 2) as u8
 }
 
-// The code of fragment b at column c: A throughout for fragment 0, and for the others a bit of c + 1, so that every two columns conflict.
+// The code of row b of the pattern at column c: B throughout for row 0, and for the others a bit of c, so that every two columns that a fragment calls conflict.
 fn pattern_code(b: usize, c: usize) -> u8
     ensures { λ r. ⌜ r ≤ 2 ⌝ }
 {
-    if 95 < c {
-        return 0;
-    }
-    let x = c + 1;
     if b < 4 {
         return match b {
-            0 => 1,
-            1 => parity_code(x),
-            2 => parity_code(x / 2),
-            _ => parity_code(x / 4),
+            0 => 2,
+            1 => parity_code(c),
+            2 => parity_code(c / 2),
+            _ => parity_code(c / 4),
         };
     }
     match b {
-        4 => parity_code(x / 8),
-        5 => parity_code(x / 16),
-        6 => parity_code(x / 32),
-        _ => parity_code(x / 64),
+        4 => parity_code(c / 8),
+        5 => parity_code(c / 16),
+        6 => parity_code(c / 32),
+        _ => parity_code(c / 64),
     }
 }
 
-fn pattern_byte(b: usize, k: usize) -> u8 {
-    if 23 < k {
+// Four codes of a row, from column c on.
+fn pattern_byte(b: usize, c: usize) -> u8 {
+    if 127 < c {
         return 0;
     }
-    let code0 = pattern_code(b, 4 * k);
-    let code1 = pattern_code(b, 4 * k + 1);
-    let code2 = pattern_code(b, 4 * k + 2);
-    let code3 = pattern_code(b, 4 * k + 3);
+    let code0 = pattern_code(b, c);
+    let code1 = pattern_code(b, c + 1);
+    let code2 = pattern_code(b, c + 2);
+    let code3 = pattern_code(b, c + 3);
     code0 + 4 * code1 + 16 * code2 + 64 * code3
 }
 
-// Eight fragments over 96 columns of which any two conflict.
+// The eight rows over columns 0 to 95, and again over columns 32 to 127. Column 127 is all B; of the mixed ones, one below 32 and one above 95 can stay.
 fn pattern_table() -> [u8; 4160] {
     let mut table = [0u8; 4160];
     let mut j = 0;
-    while j < 192 {
-        let b = j / 24;
-        table[32 * b] = (b % 256) as u8;
-        table[32 * b + 6] = 96;
-        table[32 * b + 8 + j % 24] = pattern_byte(b, j % 24);
+    while j < 384 {
+        let i = j / 24;
+        let start = i / 8 * 32;
+        table[32 * i] = (i % 256) as u8;
+        table[32 * i + 4] = (start % 256) as u8;
+        table[32 * i + 6] = 96;
+        table[32 * i + 8 + j % 24] = pattern_byte(i % 8, start + 4 * (j % 24));
         j += 1;
     }
     table
