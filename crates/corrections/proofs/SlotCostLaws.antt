@@ -22,7 +22,7 @@ bit-false : (b : Bool) → (T b → ⊥) → bit b ≡ 0
 bit-false true f = absurd (f tt)
 bit-false false f = refl
 
-if-bit : (b : Bool) → (if b then 1 else 0) ≡ bit b
+pub if-bit : (b : Bool) → (if b then 1 else 0) ≡ bit b
 if-bit true = refl
 if-bit false = refl
 

@@ -8,11 +8,13 @@ ghost use Rattle.corrections.specs.Columns.{Shallow};
 ghost use Rattle.conflicts.specs.Matrix.{Matrix};
 
 mod depth;
+mod letters;
 mod slots;
 mod spans;
 mod sweep;
 
 pub use depth::first_deep;
+pub use letters::correct_cells;
 
 // Writes the first side list of least cost, and returns that cost.
 pub fn least_cost_sides(m: usize, n: usize, cells: &[u8], sides: &mut [u8]) -> usize
