@@ -2,7 +2,7 @@
 -- Assumes nothing.
 use mathlib.Core.Path.{_≡_, sym, ap, ap₂, fun-ext, _∙_}
 use mathlib.Core.Logic.{_⊎_, inl, inr}
-use mathlib.Core.List.{List, []}
+use mathlib.Core.List.{List, [], _++_}
 use Prim.Native.Nat.{ℕ, _+_, _*_, _-_, _/_, _%_, _^_, _≤_, _<_}
 use native.Mathlib.Decide.{decLe}
 use native.Mathlib.Omega.{arith}
@@ -13,7 +13,7 @@ use Rattle.records.specs.Below.{if_then_else_, _<?_, _≤?_, _and_, isnt, sumBe
 use Rattle.records.specs.Record.{littleEndian, startOf, spanOf, isCall, cellOf, codeAt}
 use Rattle.records.specs.Table.{fragments, recordAt}
 use Rattle.records.specs.Writing.{cellBytes}
-use Rattle.records.proofs.BelowLaws.{both, decided, isnt-isnt, not-both, if-ind, if-true, if-false, ==-eq, <?-lt, lt-<?}
+use Rattle.records.proofs.BelowLaws.{both, decided, isnt-isnt, not-both, if-ind, if-true, if-false, ==-eq, <?-lt, lt-<?, sum-ext}
 use Rattle.records.proofs.FieldLaws.{start-bytes, codeAt-in, codeAt-out}
 use Rattle.records.proofs.ByteLaws.{cell-past, cell-small, length-cellBytes, cellByte-at, code-written}
 use Rattle.records.proofs.ExtentLaws.{call-range, no-call}
@@ -21,7 +21,7 @@ use Rattle.records.proofs.RowLaws.{tab-ext, length-laid-out, row-laid}
 use Rattle.records.proofs.TableLaws.{fragments-of, length-whole, recordAt-row, length-recordAt, recordAt-bytes}
 use Rattle.conflicts.specs.Grid.{Grid, gridOf, withCells}
 use Rattle.conflicts.specs.Corrections.{leastCostSides, correctedCell, corrected, differs}
-use Rattle.conflicts.specs.Answer.{correctedGrid, rewritten, correctedTable}
+use Rattle.conflicts.specs.Answer.{correctedGrid, rewrittenCode, rewritten, correctedTable}
 use Rattle.conflicts.specs.Minimality.{differsAt, OthersKept}
 use Rattle.conflicts.proofs.CorrectionLaws.{letter-call}
 
@@ -57,19 +57,26 @@ unfolding sumBelow
 four-codes f h = let a = h 0 in let b = h 1 in let c = h 2 in let d = h 3 in omega arith
 
 module _ (r : List ℕ) (row : ℕ → ℕ) (full : length r ≡ 32) where
-  codes : ℕ → ℕ
-  codes i = if i <? spanOf r then row (startOf r + i) else cellOf r i
+  abbrev codes : ℕ → ℕ
+  codes = rewrittenCode r row
 
   header-length : length (take 8 r) ≡ 8
   header-length = length-take-le 8 r (omega arith)
 
-  rewritten-length : length (rewritten r row) ≡ 32
-  unfolding rewritten codes
+  pub rewritten-length : length (rewritten r row) ≡ 32
+  unfolding rewritten
   rewritten-length = length-append (take 8 r) (cellBytes codes) ∙ (let a = header-length in let b = length-cellBytes codes in omega arith)
 
-  rewritten-header : (b : ℕ) → b < 8 → getD (rewritten r row) b 0 ≡ getD r b 0
-  unfolding rewritten codes
+  pub rewritten-header : (b : ℕ) → b < 8 → getD (rewritten r row) b 0 ≡ getD r b 0
+  unfolding rewritten
   rewritten-header b h = List·getD-append (take 8 r) (cellBytes codes) 0 b (omega (arith, header-length)) ∙ getD-take 8 r b 0 h
+
+  pub rewritten-byte-at : (b : ℕ) → 8 ≤ b → b < 32 → getD (rewritten r row) b 0 ≡ sumBelow 4 (λ q. 4 ^ q * rewrittenCode r row (4 * (b - 8) + q))
+  unfolding rewritten
+  rewritten-byte-at b l h =
+      ap (λ (k : ℕ). getD (take 8 r ++ cellBytes codes) k 0) (let e : b ≡ length (take 8 r) + (b - 8) = omega (arith, header-length) in e)
+      ∙ getD-append-add (take 8 r) (cellBytes codes) (b - 8) 0
+      ∙ cellByte-at codes (b - 8) (omega arith)
 
   rewritten-start : startOf (rewritten r row) ≡ startOf r
   rewritten-start =
@@ -83,21 +90,21 @@ module _ (r : List ℕ) (row : ℕ → ℕ) (full : length r ≡ 32) where
 
   module _ (small : (c : ℕ) → row c < 4) where
     codes-small : (i : ℕ) → codes i < 4
-    unfolding codes
+    unfolding rewrittenCode
     codes-small i = if-ind (λ x. x < 4) (i <? spanOf r) (λ t. small (startOf r + i)) (λ t. cell-small r i)
 
     rewritten-cell : (i : ℕ) → i < 96 → cellOf (rewritten r row) i ≡ codes i
-    unfolding rewritten codes
+    unfolding rewritten
     rewritten-cell i h = code-written (take 8 r) codes header-length (λ i l. codes-small i) i h
 
     -- a cell of the span has its column's code
     pub span-cell : (i : ℕ) → i < 96 → i < spanOf r → cellOf (rewritten r row) i ≡ row (startOf r + i)
-    unfolding codes
+    unfolding rewrittenCode
     span-cell i h l = rewritten-cell i h ∙ if-true (i <? spanOf r) _ _ (lt-<? i (spanOf r) l)
 
     -- and one after the span is the old one
     pub later-cell : (i : ℕ) → i < 96 → T (isnt (i <? spanOf r)) → cellOf (rewritten r row) i ≡ cellOf r i
-    unfolding codes
+    unfolding rewrittenCode
     later-cell i h l = rewritten-cell i h ∙ if-false (i <? spanOf r) _ _ l
 
     -- where holes stay holes the record's row is the row given
@@ -128,14 +135,24 @@ module _ (r : List ℕ) (row : ℕ → ℕ) (full : length r ≡ 32) where
 
     -- bytes stay bytes
     rewritten-byte : ((b : ℕ) → b < 32 → getD r b 0 < 256) → (b : ℕ) → b < 32 → getD (rewritten r row) b 0 < 256
-    unfolding rewritten codes
+    unfolding rewritten
     rewritten-byte bytes b h =
         elim (decLe 8 b) [
-          | yes l ↦
-              let e : b ≡ length (take 8 r) + (b - 8) = omega (arith, header-length) in
-              rw e (rw (getD-append-add (take 8 r) (cellBytes codes) (b - 8) 0, cellByte-at codes (b - 8) (omega arith)) (four-codes (λ q. codes (4 * (b - 8) + q)) (λ q. codes-small (4 * (b - 8) + q))))
+          | yes l ↦ rw (rewritten-byte-at b l h) (four-codes (λ q. codes (4 * (b - 8) + q)) (λ q. codes-small (4 * (b - 8) + q)))
           | no l ↦ rw (rewritten-header b (omega arith)) (bytes b h)
         ]
+
+-- a row that is the same within the span gives the same record
+pub rewritten-same : (r : List ℕ) (row other : ℕ → ℕ) → ((c : ℕ) → startOf r ≤ c → c < startOf r + spanOf r → row c ≡ other c) → rewritten r row ≡ rewritten r other
+unfolding rewritten rewrittenCode cellBytes
+rewritten-same r row other same =
+    ap (λ (l : List ℕ). take 8 r ++ l)
+    (tab-ext 24 _ _ λ b h. sum-ext 4 _ _ λ q l. ap (λ (x : ℕ). 4 ^ q * x) (code (4 * b + q)))
+  where
+    code : (i : ℕ) → (if i <? spanOf r then row (startOf r + i) else cellOf r i) ≡ (if i <? spanOf r then other (startOf r + i) else cellOf r i)
+    code i =
+        if-ind (λ x. x ≡ (if i <? spanOf r then other (startOf r + i) else cellOf r i)) (i <? spanOf r)
+        (λ t. same (startOf r + i) (omega arith) (let l = <?-lt _ _ t in omega arith) ∙ sym (if-true (i <? spanOf r) _ _ t)) (λ t. sym (if-false (i <? spanOf r) _ _ t))
 
 -- ---- the table
 
@@ -146,7 +163,7 @@ record-byte t j =
 
 -- a corrected cell has two bits, and a hole stays
 module _ (g : Grid) (sides : List ℕ) (i c : ℕ) where
-  corrected-small : g .cell i c < 4 → corrected g sides .cell i c < 4
+  pub corrected-small : g .cell i c < 4 → corrected g sides .cell i c < 4
   unfolding corrected withCells correctedCell
   corrected-small h = if-ind (λ x. x < 4) (isCall (g .cell i c)) (λ t. let l = call-range _ (letter-call g sides (getD sides i 0) c) in omega arith) (λ t. h)
 

@@ -19,7 +19,7 @@ use Rattle.conflicts.specs.Removal.{snpKeepMarks, fragmentKeepMarks}
 use Rattle.conflicts.specs.Corrections.{correctionCost, sideCount, sidePrice, majorityLetter, cost, leastCostSides, sideLetter, correctedCell, corrected, differs, cellCount, changedCells}
 use Rattle.conflicts.specs.Haplotypes.{haplotype, haplotypes}
 use Rattle.conflicts.specs.Blocks.{linked, reached, lowest, block}
-use Rattle.conflicts.specs.Answer.{answerSize, answer, checkAnswer, snpAnswer, fragmentAnswer, correctedGrid, correctionAnswer, rewritten, correctedTable}
+use Rattle.conflicts.specs.Answer.{answerSize, answer, checkAnswer, snpAnswer, fragmentAnswer, correctedGrid, correctionAnswer, rewrittenCode, rewritten, correctedTable}
 use Rattle.conflicts.specs.Services.{workRules, lengthRule, depthRules, packSizeRules, fragmentRules, unpackRules, packRules, checkRules, removalRules, correctionRules, unpackLeaves, packLeaves, findLeaves, checkLeaves, snpRemovalLeaves, fragmentRemovalLeaves, correctionsLeaves, hostCode}
 use Rattle.records.proofs.TrialTools.{sameVerdict, sameList, filled, made}
 
@@ -344,7 +344,7 @@ unfolding leaves workLeft lent sameVerdict sameList left passes failing nines wo
     choices passing some first leastOf firstLeast marked zeros keepAll keepLists gridOf withCells callsConflict conflictOn conflictOnKept depth
     sidesOf sideLists sameSide lawful errorFree firstSides snpKeepMarks fragmentKeepMarks
     correctionCost sideCount sidePrice majorityLetter cost leastCostSides sideLetter correctedCell corrected differs cellCount changedCells
-    haplotype haplotypes linked reached lowest block answerSize answer checkAnswer snpAnswer fragmentAnswer correctedGrid correctionAnswer rewritten correctedTable
+    haplotype haplotypes linked reached lowest block answerSize answer checkAnswer snpAnswer fragmentAnswer correctedGrid correctionAnswer rewrittenCode rewritten correctedTable
     workRules lengthRule depthRules packSizeRules fragmentRules unpackRules packRules checkRules removalRules correctionRules
     unpackLeaves packLeaves findLeaves checkLeaves snpRemovalLeaves fragmentRemovalLeaves correctionsLeaves
 all-pass = refl

@@ -59,9 +59,12 @@ correctedGrid g = corrected g (leastCostSides 2 g)
 unfoldable pub correctionAnswer : Grid → List ℕ
 correctionAnswer g = answer (correctedGrid g) (keepAll (g .n)) (leastCostSides 2 g)
 
--- a record with the codes of a row in the cells of its span, "and no other bit is changed"
+-- a record with the codes of a row in the cells of its span, "and no other bit is changed": the code of cell i, and the record
+unfoldable pub rewrittenCode : List ℕ → (ℕ → ℕ) → ℕ → ℕ
+rewrittenCode r row i = if i <? spanOf r then row (startOf r + i) else cellOf r i
+
 unfoldable pub rewritten : List ℕ → (ℕ → ℕ) → List ℕ
-rewritten r row = take 8 r ++ cellBytes (λ i. if i <? spanOf r then row (startOf r + i) else cellOf r i)
+rewritten r row = take 8 r ++ cellBytes (rewrittenCode r row)
 
 -- "a table of 32m bytes, the corrected records"
 unfoldable pub correctedTable : ℕ → List ℕ → List ℕ

@@ -4,6 +4,10 @@ pub mod FragmentLaws
 pub mod PackLaws
 pub mod RoundTrips
 pub mod CheckLaws
+pub mod StageLaws
 pub mod RemovalLaws
+pub mod RewriteLaws
 pub mod TableRemovalLaws
+pub mod TableCorrectionLaws
+pub mod NumberLaws
 pub mod HostLaws

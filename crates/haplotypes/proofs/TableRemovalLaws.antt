@@ -31,7 +31,7 @@ use Rattle.haplotypes.specs.Sizes.{Sized, RecordsKept}
 use Rattle.haplotypes.specs.Meanings.{SnpSays, FragmentSays}
 use Rattle.haplotypes.proofs.SizeLaws.{sized-count, sized-n, sized-m}
 use Rattle.haplotypes.proofs.CheckLaws.{length-cells}
-use Rattle.haplotypes.proofs.RemovalLaws.{Left, Leaves, removalVerdict}
+use Rattle.haplotypes.proofs.RemovalLaws.{Leaves, removalVerdict}
 
 module _ (n : ℕ) (table : List ℕ) (narrow : n ≤ 128) (few : fragments table ≤ 128) (kept : RecordsKept n table) where
   sound : (i : ℕ) → i < fragments table → Sound n (recordAt table i)
@@ -67,10 +67,10 @@ module _ (n : ℕ) (table : List ℕ) (narrow : n ≤ 128) (few : fragments tabl
   bytes-fragments e f found = bytes-phased _ _ e f (fragments-free (gridOf n table)) found
 
 module _ {n m : ℕ} {table cells : List ℕ} (sized : Sized n m table) (kept : RecordsKept n table) (same : cells ≡ tableCells n table) where
-  few : fragments table ≤ 128
+  pub few : fragments table ≤ 128
   few = let e = sized-count sized in let h = sized-m sized in omega arith
 
-  grid-is : matrixGrid m n cells ≡ matrixGrid (fragments table) n (tableCells n table)
+  pub grid-is : matrixGrid m n cells ≡ matrixGrid (fragments table) n (tableCells n table)
   grid-is = ap₂ (λ (k : ℕ) (x : List ℕ). matrixGrid k n x) (sym (sized-count sized)) same
 
   pub table-matrix : Matrix m n cells
@@ -97,25 +97,15 @@ module _ {n m : ℕ} {table cells : List ℕ} (sized : Sized n m table) (kept : 
       bytes-fragments n table (sized-n sized) few kept e (f ∙ table-fragments)
       (cells-found n table (sized-n sized) few (subst (λ g. AnswerFound g keep frags ok before after) grid-is found))
 
--- what S leaves is what a removal leaves, for its own count and answer
-pub snp-left : (n : ℕ) (table lent work : List ℕ) {v : Verdict} {w a : List ℕ} → Leaves n table lent work (zeros (snpKeepMarks (gridOf n table))) (snpAnswer (gridOf n table)) v w a
-    → Left v w a (snpRemovalLeaves n table lent work .outcome) (snpRemovalLeaves n table lent work .work) (snpRemovalLeaves n table lent work .answer)
-unfolding snpRemovalLeaves removalVerdict
-snp-left n table lent work x = x
+-- what a removal leaves, for S's count and answer, is what S leaves, and it means what demand 3 says
+module _ (n : ℕ) (table lent work : List ℕ) {v : Verdict} {w a : List ℕ} where
+  pub snp-leaves : Leaves n table lent work (zeros (snpKeepMarks (gridOf n table))) (snpAnswer (gridOf n table)) v w a
+      → (v ≡ snpRemovalLeaves n table lent work .outcome) × ((w ≡ snpRemovalLeaves n table lent work .work) × ((a ≡ snpRemovalLeaves n table lent work .answer) × SnpSays n table a v))
+  unfolding snpRemovalLeaves removalVerdict
+  snp-leaves x = (x .0, (x .1 .0, (x .1 .1, record { least = λ k e. rw (x .1 .1) (snp-accepted n table lent work k (sym (x .0) ∙ e) .0) })))
 
--- what the contract's equations mean
-pub snp-means : (n : ℕ) (table lent work : List ℕ) {v : Verdict} {after : List ℕ} → v ≡ snpRemovalLeaves n table lent work .outcome → after ≡ snpRemovalLeaves n table lent work .answer → SnpSays n table after v
-snp-means n table lent work {v} {after} e d = record {
-  least = λ k a. rw d (snp-accepted n table lent work k (sym e ∙ a) .0);
-}
-
-pub fragment-left : (n : ℕ) (table lent work : List ℕ) {v : Verdict} {w a : List ℕ} → Leaves n table lent work (zeros (fragmentKeepMarks (gridOf n table))) (fragmentAnswer (gridOf n table)) v w a
-    → Left v w a (fragmentRemovalLeaves n table lent work .outcome) (fragmentRemovalLeaves n table lent work .work) (fragmentRemovalLeaves n table lent work .answer)
-unfolding fragmentRemovalLeaves removalVerdict
-fragment-left n table lent work x = x
-
-pub fragment-means : (n : ℕ) (table lent work : List ℕ) {v : Verdict} {after : List ℕ} → v ≡ fragmentRemovalLeaves n table lent work .outcome → after ≡ fragmentRemovalLeaves n table lent work .answer
-    → FragmentSays n table after v
-fragment-means n table lent work {v} {after} e d = record {
-  least = λ k a. rw d (fragment-accepted n table lent work k (sym e ∙ a) .0);
-}
+  -- the same for F
+  pub fragment-leaves : Leaves n table lent work (zeros (fragmentKeepMarks (gridOf n table))) (fragmentAnswer (gridOf n table)) v w a
+      → (v ≡ fragmentRemovalLeaves n table lent work .outcome) × ((w ≡ fragmentRemovalLeaves n table lent work .work) × ((a ≡ fragmentRemovalLeaves n table lent work .answer) × FragmentSays n table a v))
+  unfolding fragmentRemovalLeaves removalVerdict
+  fragment-leaves x = (x .0, (x .1 .0, (x .1 .1, record { least = λ k e. rw (x .1 .1) (fragment-accepted n table lent work k (sym (x .0) ∙ e) .0) })))

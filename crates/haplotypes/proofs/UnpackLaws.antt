@@ -29,7 +29,7 @@ module _ (m n k : ℕ) (h : k < m * n) where
   row-of = div-lt-iff-lt-mul some-columns .1 h
 
 -- m rows of n numbers, laid out, are the numbers at k / n and k % n
-flat-tab : (m n : ℕ) (f : ℕ → ℕ → ℕ) → tab (m * n) (λ k. f (k / n) (k % n)) ≡ concat (tab m (λ i. tab n (f i)))
+pub flat-tab : (m n : ℕ) (f : ℕ → ℕ → ℕ) → tab (m * n) (λ k. f (k / n) (k % n)) ≡ concat (tab m (λ i. tab n (f i)))
 flat-tab m n f =
     let rows = concat (tab m (λ i. tab n (f i))) in
     ext-getD 0 _ rows (length-tab (m * n) _ ∙ sym (length-flat n f m))

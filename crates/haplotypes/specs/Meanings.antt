@@ -6,7 +6,7 @@ use mathlib.Core.List.{List}
 use Prim.Native.Nat.{ℕ}
 use Rattle.records.specs.Outcome.{Verdict, accepted}
 use Rattle.conflicts.specs.Grid.{gridOf}
-use Rattle.conflicts.specs.Minimality.{AgreeingClasses, ErrorFree, SnpRemoval, FragmentRemoval}
+use Rattle.conflicts.specs.Minimality.{AgreeingClasses, ErrorFree, SnpRemoval, FragmentRemoval, Corrected}
 
 -- "check says yes if two classes of agreeing fragments exist, and no if not"; on a yes the answer is that of the first lawful sides
 pub record CheckSays (n : ℕ) (table answer : List ℕ) (verdict : Verdict) : Type 0 where
@@ -21,3 +21,7 @@ pub record SnpSays (n : ℕ) (table answer : List ℕ) (verdict : Verdict) : Typ
 -- F's number and answer, the same for fragments
 pub record FragmentSays (n : ℕ) (table answer : List ℕ) (verdict : Verdict) : Type 0 where
   pub least : (count : ℕ) → verdict ≡ accepted count → FragmentRemoval (gridOf n table) answer count
+
+-- C's number, answer and table: every set of calls that works has at least as many; the cells that differ work, are exactly that many, and no other bit differs; the side list is the first
+pub record CorrectionSays (n : ℕ) (given answer table : List ℕ) (verdict : Verdict) : Type 0 where
+  pub least : (count : ℕ) → verdict ≡ accepted count → Corrected n given answer table count

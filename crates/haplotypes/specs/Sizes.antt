@@ -2,14 +2,15 @@
 -- Assumes nothing.
 use mathlib.Core.Path.{_≡_}
 use mathlib.Core.Bool.{Bool, true, false}
-use mathlib.Core.List.{List}
-use Prim.Native.Nat.{ℕ}
+use mathlib.Core.List.{List, [], _∷_, _++_}
+use Prim.Native.Nat.{ℕ, _*_}
 use lib.ListN.{length}
 use Rattle.records.specs.Below.{tab, concat}
 use Rattle.records.specs.Table.{fragments}
 use Rattle.records.specs.Rules.{Rule, decide, sizeRules, tableRules}
 use Rattle.records.specs.Outcome.{Verdict, accepted, refused}
-use Rattle.conflicts.specs.Services.{packSizeRules, fragmentRules}
+use Rattle.conflicts.specs.Answer.{answerSize}
+use Rattle.conflicts.specs.Services.{workRules, lengthRule, packSizeRules, fragmentRules}
 
 -- rules 3, 1 and 2 are kept by a table of m fragments and n columns
 pub record Sized (n m : ℕ) (table : List ℕ) : Type 0 where
@@ -36,3 +37,15 @@ refuses (refused number place) = true
 pub record RecordsKept (n : ℕ) (table : List ℕ) : Type 0 where
   pub count : ℕ
   pub kept : decide (tableRules n table) (accepted (fragments table)) ≡ accepted count
+
+-- the first stages of S, F and C: 3, 1, 2; 10; 11 for the answer
+unfoldable pub lentStages : ℕ → List ℕ → List ℕ → List ℕ → List (List Rule)
+lentStages n table answer work = sizeRules n table ∷ workRules work ∷ (lengthRule answer (answerSize (fragments table) n) ∷ []) ∷ []
+
+-- C's stages before 12: those, 11 for its table, and the records
+unfoldable pub correctionStages : ℕ → List ℕ → List ℕ → List ℕ → List ℕ → List (List Rule)
+correctionStages n table answer output work = lentStages n table answer work ++ ((lengthRule output (32 * fragments table) ∷ []) ∷ tableRules n table ∷ [])
+
+-- every rule of C but 12 is kept by a table of m fragments
+pub record CorrectionKept (n m : ℕ) (table answer output work : List ℕ) : Type 0 where
+  pub kept : decide (concat (correctionStages n table answer output work)) (accepted (fragments table)) ≡ accepted m

@@ -13,12 +13,11 @@ ghost use Rattle.haplotypes.specs.Sizes.{Sized, RecordsKept};
 ghost use Rattle.haplotypes.specs.Meanings.{FragmentSays};
 use crate::room::all_kept;
 use crate::room::blank_cells;
+use crate::stages::removal_fault;
 use fragment_removal::fragment_keep_marks;
 use phasing::fill_matrix;
 use phasing::phase;
 use records::Outcome;
-use records::records_fault;
-use records::size_fault;
 
 // Settles the fragments and phases those kept. The keep marks are scratch.
 fn phase_fragments(
@@ -73,35 +72,6 @@ fn remove_fragments(n: usize, m: usize, table: &[u8], work: &mut [u16], answer: 
     )
 }
 
-// F once the sizes are kept: the work's and the answer's lengths, then the records.
-fn fragment_removal_sized(
-    n: usize,
-    m: usize,
-    table: &[u8],
-    work: &mut [u16],
-    answer: &mut [u8],
-) -> Outcome
-    requires { ⌜ Sized n m (now table) ⌝ }
-    ensures outcome { λ r. ⌜ outcomeOf r ≡ fragmentRemovalLeaves n (now (table .entry)) (now (answer .entry)) (now (work .entry)) .outcome ⌝ }
-    ensures work { λ _. ⌜ now (work .exit) ≡ fragmentRemovalLeaves n (now (table .entry)) (now (answer .entry)) (now (work .entry)) .work ⌝ }
-    ensures answer { λ _. ⌜ now (answer .exit) ≡ fragmentRemovalLeaves n (now (table .entry)) (now (answer .entry)) (now (work .entry)) .answer ⌝ }
-{
-    if work.len() < 32768 {
-        return Outcome::Refused(10, 0);
-    }
-    if answer.len() != 3 * n + 2 * m {
-        return Outcome::Refused(11, 0);
-    }
-    let rest = records_fault(n, table);
-    match rest {
-        Outcome::Refused(number, place) => Outcome::Refused(number, place),
-        Outcome::Accepted(_) => {
-            let count = remove_fragments(n, m, table, work, answer);
-            Outcome::Accepted(count)
-        }
-    }
-}
-
 // Accepted with the number of removed fragments, the answer's 3n + 2m bytes, and the work all zero. A refusal writes nothing.
 pub fn least_fragment_removal(
     n: usize,
@@ -114,9 +84,12 @@ pub fn least_fragment_removal(
     ensures answer { λ _. ⌜ now (answer .exit) ≡ fragmentRemovalLeaves n (now (table .entry)) (now (answer .entry)) (now (work .entry)) .answer ⌝ }
     ensures meaning { λ r. ⌜ FragmentSays n (now (table .entry)) (now (answer .exit)) (outcomeOf r) ⌝ }
 {
-    let sizes = size_fault(n, table);
-    match sizes {
+    let fault = removal_fault(n, table, work, answer);
+    match fault {
         Outcome::Refused(number, place) => Outcome::Refused(number, place),
-        Outcome::Accepted(m) => fragment_removal_sized(n, m, table, work, answer),
+        Outcome::Accepted(m) => {
+            let count = remove_fragments(n, m, table, work, answer);
+            Outcome::Accepted(count)
+        }
     }
 }

@@ -13,11 +13,10 @@ ghost use Rattle.haplotypes.specs.Meanings.{SnpSays};
 use crate::room::all_kept;
 use crate::room::blank_cells;
 use crate::room::clear;
+use crate::stages::removal_fault;
 use phasing::fill_matrix;
 use phasing::phase;
 use records::Outcome;
-use records::records_fault;
-use records::size_fault;
 use snp_removal::snp_keep_marks;
 
 // Settles the columns and phases the fragments on those kept. The keep marks are scratch.
@@ -59,36 +58,6 @@ fn remove_snps(n: usize, m: usize, table: &[u8], answer: &mut [u8]) -> usize
     phase_kept(n, m, table, &cells, &mut keep[0..n], &frags[0..m], answer)
 }
 
-// S once the sizes are kept: the work's and the answer's lengths, then the records.
-fn snp_removal_sized(
-    n: usize,
-    m: usize,
-    table: &[u8],
-    work: &mut [u16],
-    answer: &mut [u8],
-) -> Outcome
-    requires { ⌜ Sized n m (now table) ⌝ }
-    ensures outcome { λ r. ⌜ outcomeOf r ≡ snpRemovalLeaves n (now (table .entry)) (now (answer .entry)) (now (work .entry)) .outcome ⌝ }
-    ensures work { λ _. ⌜ now (work .exit) ≡ snpRemovalLeaves n (now (table .entry)) (now (answer .entry)) (now (work .entry)) .work ⌝ }
-    ensures answer { λ _. ⌜ now (answer .exit) ≡ snpRemovalLeaves n (now (table .entry)) (now (answer .entry)) (now (work .entry)) .answer ⌝ }
-{
-    if work.len() < 32768 {
-        return Outcome::Refused(10, 0);
-    }
-    if answer.len() != 3 * n + 2 * m {
-        return Outcome::Refused(11, 0);
-    }
-    let rest = records_fault(n, table);
-    match rest {
-        Outcome::Refused(number, place) => Outcome::Refused(number, place),
-        Outcome::Accepted(_) => {
-            let count = remove_snps(n, m, table, answer);
-            clear(work);
-            Outcome::Accepted(count)
-        }
-    }
-}
-
 // Accepted with the number of removed columns, the answer's 3n + 2m bytes, and the work all zero. A refusal writes nothing.
 pub fn least_snp_removal(n: usize, table: &[u8], work: &mut [u16], answer: &mut [u8]) -> Outcome
     ensures outcome { λ r. ⌜ outcomeOf r ≡ snpRemovalLeaves n (now (table .entry)) (now (answer .entry)) (now (work .entry)) .outcome ⌝ }
@@ -96,9 +65,13 @@ pub fn least_snp_removal(n: usize, table: &[u8], work: &mut [u16], answer: &mut 
     ensures answer { λ _. ⌜ now (answer .exit) ≡ snpRemovalLeaves n (now (table .entry)) (now (answer .entry)) (now (work .entry)) .answer ⌝ }
     ensures meaning { λ r. ⌜ SnpSays n (now (table .entry)) (now (answer .exit)) (outcomeOf r) ⌝ }
 {
-    let sizes = size_fault(n, table);
-    match sizes {
+    let fault = removal_fault(n, table, work, answer);
+    match fault {
         Outcome::Refused(number, place) => Outcome::Refused(number, place),
-        Outcome::Accepted(m) => snp_removal_sized(n, m, table, work, answer),
+        Outcome::Accepted(m) => {
+            let count = remove_snps(n, m, table, answer);
+            clear(work);
+            Outcome::Accepted(count)
+        }
     }
 }

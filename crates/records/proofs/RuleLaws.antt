@@ -76,6 +76,20 @@ pub stage-last : (rs : List Rule) (v : Verdict) → decide (concat (rs ∷ [])) 
 unfolding concat decide
 stage-last rs v = decide-append rs [] v
 
+-- several stages at once
+decide-stages : (ss ts : List (List Rule)) (v : Verdict) → decide (concat (ss ++ ts)) v ≡ decide (concat ss) (decide (concat ts) v)
+unfolding concat decide
+decide-stages [] ts v = refl
+decide-stages (rs ∷ ss) ts v =
+    decide-append rs (concat (ss ++ ts)) v ∙ ap (decide rs) (decide-stages ss ts v) ∙ sym (decide-append rs (concat ss) (decide (concat ts) v))
+
+module _ (ss ts : List (List Rule)) (j : ℕ) (v : Verdict) where
+  pub stages-kept : (k : ℕ) → decide (concat ss) (accepted j) ≡ accepted k → decide (concat (ss ++ ts)) v ≡ decide (concat ts) v
+  stages-kept k e = decide-stages ss ts v ∙ decide-accepted (concat ss) j k _ e
+
+  pub stages-refused : (k p : ℕ) → decide (concat ss) (accepted j) ≡ refused k p → decide (concat (ss ++ ts)) v ≡ refused k p
+  stages-refused k p e = decide-stages ss ts v ∙ decide-refused (concat ss) j k p _ e
+
 -- ---- an acceptance, rule by rule
 
 -- rules that accept do so with the count that they were given

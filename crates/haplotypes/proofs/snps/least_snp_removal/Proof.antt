@@ -1,31 +1,28 @@
+-- `snps::least_snp_removal` meets its contract.
+-- Assumes nothing.
 use mathlib.Core.Path.{sym, ap, _∙_}
 use Rattle.records.specs.Outcome.{outcomeOf}
-use Rattle.conflicts.specs.Grid.{gridOf}
-use Rattle.conflicts.specs.Answer.{snpAnswer}
-use Rattle.haplotypes.proofs.RemovalLaws.{removal-refuses, removal-sizes}
-use Rattle.haplotypes.proofs.TableRemovalLaws.{snp-left, snp-means}
+use Rattle.haplotypes.proofs.StageLaws.{removal-sized, removal-answer, removal-kept}
+use Rattle.haplotypes.proofs.RemovalLaws.{removal-refuses, removal-accepts}
+use Rattle.haplotypes.proofs.TableRemovalLaws.{snp-leaves}
 use borrow.Author.Needs.{needs}
 use Rattle.haplotypes.proofs.snps.least_snp_removal.Statement.{statement}
 use Rattle.haplotypes.proofs.snps.least_snp_removal.Tie as tie
 
-size-fault-requires : tie.Need-size-fault-requires
-size-fault-requires c κs = search needs
+removal-fault-requires : tie.Need-removal-fault-requires
+removal-fault-requires c κs = search needs
 
-enum-known-sizes : tie.Need-enum-known-sizes
-enum-known-sizes c = search needs
+enum-known-fault : tie.Need-enum-known-fault
+enum-known-fault c = search needs
 
-enum-known-sizes-2 : tie.Need-enum-known-sizes-2
-enum-known-sizes-2 c = search needs
+enum-known-fault-2 : tie.Need-enum-known-fault-2
+enum-known-fault-2 c = search needs
 
-snp-removal-sized-requires : tie.Need-snp-removal-sized-requires
-snp-removal-sized-requires c κs = record { kept = sym (c .before .before .before .before .before .size-fault .ensures) ∙ ap outcomeOf (c .before .before .before .sizes2 .given .1) }
+remove-snps-requires : tie.Need-remove-snps-requires
+remove-snps-requires c κs = let e = sym (c .before .before .before .before .removal-fault .ensures) ∙ ap outcomeOf (c .before .before .fault2 .given .1) in (removal-sized _ _ _ _ _ e, (removal-kept _ _ _ _ _ e, removal-answer _ _ _ _ _ e))
 
-returns : tie.Need-returns
-returns c =
-    let a = c .before .before .before .before .before .before .before .args in
-    let r = snp-left (a .n) (a .table .now) (a .answer .now) (a .work .now)
-    (removal-refuses _ _ _ _ _ _ _ _ (removal-sizes _ _ _ _ _ (snpAnswer (gridOf (a .n) (a .table .now))) _ _ (sym (c .before .before .before .size-fault .ensures) ∙ ap outcomeOf (c .before .sizes .given .1)))) in
-    (r .0, (r .1 .0, (r .1 .1, snp-means _ _ _ _ (r .0) (r .1 .1))))
+clear-requires : tie.Need-clear-requires
+clear-requires c κs = search needs
 
 same-length : tie.Need-same-length
 same-length c = search needs
@@ -33,18 +30,30 @@ same-length c = search needs
 same-length-2 : tie.Need-same-length-2
 same-length-2 c = search needs
 
+returns : tie.Need-returns
+returns c = snp-leaves _ _ _ _ (removal-refuses _ _ _ _ _ _ _ _ (sym (c .before .before .before .removal-fault .ensures) ∙ ap outcomeOf (c .before .fault .given .1)))
+
+same-length-3 : tie.Need-same-length-3
+same-length-3 c = search needs
+
+same-length-4 : tie.Need-same-length-4
+same-length-4 c = search needs
+
 returns-2 : tie.Need-returns-2
-returns-2 c = let r = c .before .before .before .before .snp-removal-sized .ensures in (r .0, (r .1 .0, (r .1 .1, snp-means _ _ _ _ (r .0) (r .1 .1))))
+returns-2 c = snp-leaves _ _ _ _ (removal-accepts _ _ _ _ _ _ _ (sym (c .before .before .before .before .before .before .before .before .before .before .before .removal-fault .ensures) ∙ ap outcomeOf (c .before .before .before .before .before .before .before .before .before .fault2 .given .1)) (c .before .before .before .before .before .before .remove-snps .ensures .0) (c .before .before .clear .ensures) (c .before .before .before .before .before .before .remove-snps .ensures .1))
 
 pub least-snp-removal-spec : {M : Type 1} → statement M
 least-snp-removal-spec =
     tie.close
     (tie.spec
-    size-fault-requires
-    enum-known-sizes
-    enum-known-sizes-2
-    snp-removal-sized-requires
-    returns
+    removal-fault-requires
+    enum-known-fault
+    enum-known-fault-2
+    remove-snps-requires
+    clear-requires
     same-length
     same-length-2
+    returns
+    same-length-3
+    same-length-4
     returns-2)
