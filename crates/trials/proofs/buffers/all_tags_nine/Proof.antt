@@ -1,8 +1,8 @@
 use Prim.Native.Nat.{_-_}
 use lib.ListN.{length}
 use borrow.Author.Needs.{needs}
-use Rattle.trials.proofs.all_tags_nine.Statement.{statement}
-use Rattle.trials.proofs.all_tags_nine.Tie as tie
+use Rattle.trials.proofs.buffers.all_tags_nine.Statement.{statement}
+use Rattle.trials.proofs.buffers.all_tags_nine.Tie as tie
 
 abbrev Inv-loop : tie.InvT-loop
 Inv-loop tags k₀ k = Unit

@@ -1,8 +1,8 @@
 use Prim.Native.Nat.{_-_}
 use lib.ListN.{length}
 use borrow.Author.Needs.{needs}
-use Rattle.trials.proofs.digits.Statement.{statement}
-use Rattle.trials.proofs.digits.Tie as tie
+use Rattle.trials.proofs.printing.digits.Statement.{statement}
+use Rattle.trials.proofs.printing.digits.Tie as tie
 
 abbrev Inv-loop : tie.InvT-loop
 Inv-loop part k₀ k = Unit

@@ -2,8 +2,8 @@ use Prim.Native.Nat.{_-_}
 use lib.ListN.{length}
 use mathlib.Core.Path.{_≡_}
 use borrow.Author.Needs.{needs}
-use Rattle.trials.proofs.counted_tags.Statement.{statement}
-use Rattle.trials.proofs.counted_tags.Tie as tie
+use Rattle.trials.proofs.tables.counted_tags.Statement.{statement}
+use Rattle.trials.proofs.tables.counted_tags.Tie as tie
 
 abbrev Inv-loop : tie.InvT-loop
 Inv-loop tags₀ k₀ tags k = length tags ≡ 130

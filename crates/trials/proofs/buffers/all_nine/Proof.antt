@@ -1,20 +1,17 @@
 use Prim.Native.Nat.{_-_}
 use lib.ListN.{length}
 use borrow.Author.Needs.{needs}
-use Rattle.trials.proofs.all_work.Statement.{statement}
-use Rattle.trials.proofs.all_work.Tie as tie
+use Rattle.trials.proofs.buffers.all_nine.Statement.{statement}
+use Rattle.trials.proofs.buffers.all_nine.Tie as tie
 
 abbrev Inv-loop : tie.InvT-loop
-Inv-loop work value k₀ k = Unit
+Inv-loop bytes k₀ k = Unit
 
 abbrev μ-loop : tie.MeasureT-loop
-μ-loop work value k₀ k = length work - k
+μ-loop bytes k₀ k = length bytes - k
 
 loop-holds : tie.Need-loop-holds Inv-loop μ-loop
 loop-holds c = search needs
-
-mul-if1 : tie.Need-mul-if1 Inv-loop μ-loop
-mul-if1 c = search needs
 
 shared-slice-read-if1 : tie.Need-shared-slice-read-if1 Inv-loop μ-loop
 shared-slice-read-if1 c = search needs
@@ -34,14 +31,13 @@ loop-again c = search needs
 returns-2 : tie.Need-returns-2 Inv-loop μ-loop
 returns-2 c = search needs
 
-pub all-work-spec : {M : Type 1} → statement M
-all-work-spec =
+pub all-nine-spec : {M : Type 1} → statement M
+all-nine-spec =
     tie.close
     (tie.spec
     Inv-loop
     μ-loop
     loop-holds
-    mul-if1
     shared-slice-read-if1
     returns
     add-k
