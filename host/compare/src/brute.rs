@@ -1,0 +1,166 @@
+//! Paper 01 by trying every choice. Nothing here is clever: the choices are listed in the paper's order, and the first
+//! least one is taken.
+//!
+//! A choice over k things is a number below 2^k. Thing 0 is its highest bit, so that the order of the numbers is the
+//! paper's order: at the first thing where two choices differ, bit 0 (kept, or side 1) comes first.
+
+use crate::answer::{haplotypes, Answer, Answers, REMOVED_FRAGMENT};
+use crate::record::{Matrix, A, B, HOLE};
+use crate::rules::too_deep;
+
+/// Above this many columns or fragments the choices are too many.
+pub const MOST_THINGS: usize = 12;
+
+pub fn answers(matrix: &Matrix) -> Answers {
+    Answers {
+        check: check(matrix),
+        snps: least_snp_removal(matrix),
+        fragments: least_fragment_removal(matrix),
+        corrections: too_deep(matrix).map_or_else(|| Ok(least_corrections(matrix)), Err),
+    }
+}
+
+/// The table's first lawful side list, if it has one.
+pub fn check(matrix: &Matrix) -> Option<Answer> {
+    let keep = vec![true; matrix.n];
+    let kept = vec![true; matrix.m()];
+    first_sides(matrix, &keep, &kept).map(|sides| phased(matrix, 0, keep, sides))
+}
+
+fn least_snp_removal(matrix: &Matrix) -> Answer {
+    let kept = vec![true; matrix.m()];
+    let (count, keep, sides) = first_least(matrix.n, |keep| first_sides(matrix, keep, &kept));
+    phased(matrix, count, keep, sides)
+}
+
+fn least_fragment_removal(matrix: &Matrix) -> Answer {
+    let keep = vec![true; matrix.n];
+    let (count, _, sides) = first_least(matrix.m(), |kept| first_sides(matrix, &keep, kept));
+    phased(matrix, count, keep, sides)
+}
+
+fn least_corrections(matrix: &Matrix) -> Answer {
+    let kept = vec![true; matrix.m()];
+    let mut best: Option<(usize, Vec<u8>)> = None;
+    for choice in 0..1u64 << matrix.m() {
+        let sides = side_list(choice, &kept);
+        let cost = cost(matrix, &sides);
+        if best.as_ref().is_none_or(|(least, _)| cost < *least) {
+            best = Some((cost, sides));
+        }
+    }
+    let (count, sides) = best.expect("there is a side list");
+    let corrected = corrected(matrix, &sides);
+    let changed = (0..matrix.m()).map(|f| differences(&matrix.rows[f], &corrected.rows[f])).sum::<usize>();
+    assert_eq!(count, changed, "the cost is the number of changed calls");
+    phased(&corrected, count, vec![true; matrix.n], sides)
+}
+
+/// The first of the choices over k things that remove the fewest, among those that have a side list.
+fn first_least(k: usize, sides_of: impl Fn(&[bool]) -> Option<Vec<u8>>) -> (usize, Vec<bool>, Vec<u8>) {
+    let mut best: Option<(usize, Vec<bool>, Vec<u8>)> = None;
+    for choice in 0..1u64 << k {
+        let removed = choice.count_ones() as usize;
+        if best.as_ref().is_some_and(|(least, _, _)| removed >= *least) {
+            continue; // a later choice is taken only if it removes fewer
+        }
+        let keep: Vec<bool> = (0..k).map(|i| !bit(choice, k, i)).collect();
+        if let Some(sides) = sides_of(&keep) {
+            best = Some((removed, keep, sides));
+        }
+    }
+    best.expect("removing everything leaves an error-free rest")
+}
+
+/// The first side list of the kept fragments with no conflict inside a side on a kept column.
+fn first_sides(matrix: &Matrix, keep: &[bool], kept: &[bool]) -> Option<Vec<u8>> {
+    let conflicts = conflict_pairs(matrix, keep, kept);
+    let kept_count = kept.iter().filter(|&&kept| kept).count();
+    (0..1u64 << kept_count)
+        .find(|&choice| conflicts.iter().all(|&(i, j)| bit(choice, kept_count, i) != bit(choice, kept_count, j)))
+        .map(|choice| side_list(choice, kept))
+}
+
+/// The pairs of kept fragments that conflict on a kept column, counted among the kept ones.
+fn conflict_pairs(matrix: &Matrix, keep: &[bool], kept: &[bool]) -> Vec<(usize, usize)> {
+    let rows: Vec<&Vec<u8>> = (0..matrix.m()).filter(|&f| kept[f]).map(|f| &matrix.rows[f]).collect();
+    let conflict = |i: usize, j: usize| (0..matrix.n).any(|c| keep[c] && conflict_on(rows[i], rows[j], c));
+    let pairs = (0..rows.len()).flat_map(|j| (0..j).map(move |i| (i, j)));
+    pairs.filter(|&(i, j)| conflict(i, j)).collect()
+}
+
+fn conflict_on(one: &[u8], other: &[u8], c: usize) -> bool {
+    matches!((one[c], other[c]), (A, B) | (B, A))
+}
+
+/// The sides of a choice over the kept fragments; the removed ones have none.
+fn side_list(choice: u64, kept: &[bool]) -> Vec<u8> {
+    let kept_count = kept.iter().filter(|&&kept| kept).count();
+    let mut next = 0;
+    let side = |&kept: &bool| {
+        if !kept {
+            return REMOVED_FRAGMENT;
+        }
+        next += 1;
+        1 + bit(choice, kept_count, next - 1) as u8
+    };
+    kept.iter().map(side).collect()
+}
+
+fn bit(choice: u64, k: usize, i: usize) -> bool {
+    choice >> (k - 1 - i) & 1 == 1
+}
+
+/// The sum over columns and sides of the smaller of the counts of A and B.
+fn cost(matrix: &Matrix, sides: &[u8]) -> usize {
+    let price = |c: usize, side: u8| count(matrix, sides, side, c, A).min(count(matrix, sides, side, c, B));
+    (0..matrix.n).map(|c| price(c, 1) + price(c, 2)).sum()
+}
+
+fn count(matrix: &Matrix, sides: &[u8], side: u8, c: usize, letter: u8) -> usize {
+    (0..matrix.m()).filter(|&f| sides[f] == side && matrix.rows[f][c] == letter).count()
+}
+
+/// The matrix with the rarer letter of each column and side changed; on equal counts the Bs become A.
+fn corrected(matrix: &Matrix, sides: &[u8]) -> Matrix {
+    let mut corrected = matrix.clone();
+    for (f, row) in corrected.rows.iter_mut().enumerate() {
+        for (c, cell) in row.iter_mut().enumerate().filter(|(_, cell)| **cell != HOLE) {
+            let counts = |letter| count(matrix, sides, sides[f], c, letter);
+            *cell = if counts(A) < counts(B) { B } else { A };
+        }
+    }
+    corrected
+}
+
+fn differences(one: &[u8], other: &[u8]) -> usize {
+    one.iter().zip(other).filter(|(x, y)| x != y).count()
+}
+
+fn phased(matrix: &Matrix, count: usize, keep: Vec<bool>, sides: Vec<u8>) -> Answer {
+    let haplotypes = haplotypes(matrix, &keep, &sides);
+    let blocks = blocks(matrix, &keep, &sides);
+    Answer { count, keep, haplotypes, sides, blocks }
+}
+
+/// The lowest record position that a chain of kept fragments reaches, by lengthening the chains until nothing changes.
+fn blocks(matrix: &Matrix, keep: &[bool], sides: &[u8]) -> Vec<Option<usize>> {
+    let m = matrix.m();
+    let kept = |f: usize| sides[f] != REMOVED_FRAGMENT;
+    let calls = |f: usize, c: usize| matrix.rows[f][c] != HOLE;
+    let neighbours = |f: usize, g: usize| (0..matrix.n).any(|c| keep[c] && calls(f, c) && calls(g, c));
+    let mut lowest: Vec<Option<usize>> = (0..m).map(|f| kept(f).then_some(f)).collect();
+    let mut changed = true;
+    while changed {
+        changed = false;
+        for f in (0..m).filter(|&f| kept(f)) {
+            for g in (0..m).filter(|&g| kept(g)) {
+                if lowest[g] < lowest[f] && neighbours(f, g) {
+                    lowest[f] = lowest[g];
+                    changed = true;
+                }
+            }
+        }
+    }
+    lowest
+}

@@ -1,0 +1,50 @@
+//! Random tables of every kind.
+
+mod faulty;
+mod large;
+mod rows;
+mod small;
+
+use crate::rng::Rng;
+
+pub struct Kind {
+    pub name: &'static str,
+    pub tables: usize,
+    make: fn(&mut Rng) -> Vec<u8>,
+}
+
+impl Kind {
+    pub fn table(&self, rng: &mut Rng) -> Vec<u8> {
+        (self.make)(rng)
+    }
+}
+
+pub fn kinds() -> Vec<Kind> {
+    let kind = |name, tables, make| Kind { name, tables, make };
+    vec![
+        kind("no records", 3, |_| Vec::new()),
+        kind("uniform", 1500, small::uniform),
+        kind("noisy copies", 2000, small::noisy),
+        kind("nested", 1000, small::nested),
+        kind("single calls", 600, small::singles),
+        kind("identical", 400, small::identical),
+        kind("without calls", 50, small::bare),
+        kind("deep", 300, small::deep),
+        kind("up to 12 x 12", 200, small::twelve),
+        kind("one fault", 1500, faulty::one),
+        kind("several faults", 1000, faulty::several),
+        kind("long or ragged", 400, faulty::long),
+        kind("random fields", 600, faulty::random_fields),
+        kind("shifted", 300, large::shifted),
+        kind("few, long", 200, large::few_long),
+        kind("many, short", 200, large::many_short),
+        kind("medium, heavy noise", 300, large::medium),
+        kind("medium, shallow", 300, large::medium_shallow),
+        kind("full, error-free", 10, large::full_error_free),
+        kind("full, noisy", 60, large::full_noisy),
+        kind("full, nested", 60, large::full_nested),
+        kind("full, shallow", 80, large::full_shallow),
+        kind("full, blocks", 60, large::full_blocks),
+        kind("full, 8 and 9 calls", 20, large::full_at_depth),
+    ]
+}

@@ -1,0 +1,68 @@
+//! Fragments before they have tags and bytes, and the shapes that the kinds of tables share.
+
+use crate::record::{record, A, B};
+use crate::rng::Rng;
+use std::collections::HashSet;
+
+/// A fragment's first column and its calls.
+pub type Row = (usize, Vec<u8>);
+
+/// The bytes of a table with these fragments. Most tables have their records in random order, some in the order given.
+pub fn table(rng: &mut Rng, mut rows: Vec<Row>) -> Vec<u8> {
+    if rng.chance(75) {
+        rng.shuffle(&mut rows);
+    }
+    let tags = tags(rng, rows.len());
+    rows.iter().zip(tags).flat_map(|((start, calls), tag)| record(tag, *start, calls)).collect()
+}
+
+/// Different tags: counted, random, or different in one byte only.
+fn tags(rng: &mut Rng, count: usize) -> Vec<u32> {
+    let base = rng.next() as u32;
+    let style = rng.below(6);
+    let mut used = HashSet::new();
+    let mut tags = Vec::new();
+    while tags.len() < count {
+        let i = tags.len() as u32;
+        let tag = match style {
+            0 => i,
+            1 => rng.next() as u32,
+            byte => base.wrapping_add(i << (8 * (byte - 2))),
+        };
+        if used.insert(tag) {
+            tags.push(tag);
+        }
+    }
+    tags
+}
+
+pub fn letter(rng: &mut Rng) -> u8 {
+    rng.pick(&[A, B])
+}
+
+pub fn letters(rng: &mut Rng, count: usize) -> Vec<u8> {
+    (0..count).map(|_| letter(rng)).collect()
+}
+
+pub fn other(code: u8) -> u8 {
+    A + B - code
+}
+
+/// A first column and a span of at least 1 within n columns.
+pub fn place(rng: &mut Rng, n: usize, longest: usize) -> (usize, usize) {
+    let span = rng.between(1, longest.min(n));
+    (rng.between(0, n - span), span)
+}
+
+/// Two haplotypes, different at most columns.
+pub fn haplotypes(rng: &mut Rng, n: usize, different: usize) -> [Vec<u8>; 2] {
+    let one = letters(rng, n);
+    let second = one.iter().map(|&code| if rng.chance(different) { other(code) } else { code }).collect();
+    [one, second]
+}
+
+/// A copy of a part of one of the two haplotypes, each call wrong in `noise` of 1,000 cases.
+pub fn copy(rng: &mut Rng, haplotypes: &[Vec<u8>; 2], (start, span): (usize, usize), noise: usize) -> Row {
+    let from = &haplotypes[rng.below(2)][start..start + span];
+    (start, from.iter().map(|&code| if rng.below(1000) < noise { other(code) } else { code }).collect())
+}

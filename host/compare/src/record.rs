@@ -1,0 +1,86 @@
+//! The 32-byte record: its fields, its cells, and the matrix of a table.
+
+pub const RECORD: usize = 32;
+pub const CELLS: usize = 96;
+
+pub const HOLE: u8 = 0;
+pub const A: u8 = 1;
+pub const B: u8 = 2;
+pub const REMOVED: u8 = 3;
+
+pub fn tag(record: &[u8]) -> u32 {
+    u32::from_le_bytes([record[0], record[1], record[2], record[3]])
+}
+
+pub fn start(record: &[u8]) -> usize {
+    u16::from_le_bytes([record[4], record[5]]) as usize
+}
+
+pub fn span(record: &[u8]) -> usize {
+    record[6] as usize
+}
+
+pub fn cell(record: &[u8], i: usize) -> u8 {
+    record[8 + i / 4] >> (2 * (i % 4)) & 3
+}
+
+pub fn set_cell(record: &mut [u8], i: usize, code: u8) {
+    let byte = &mut record[8 + i / 4];
+    let shift = 2 * (i % 4);
+    *byte = *byte & !(3 << shift) | code << shift;
+}
+
+pub fn set_start(record: &mut [u8], start: u16) {
+    record[4..6].copy_from_slice(&start.to_le_bytes());
+}
+
+/// The record of a fragment whose calls stand from column `start` on.
+pub fn record(tag: u32, start: usize, calls: &[u8]) -> [u8; RECORD] {
+    let mut record = [0; RECORD];
+    record[..4].copy_from_slice(&tag.to_le_bytes());
+    set_start(&mut record, start as u16);
+    record[6] = calls.len() as u8;
+    for (i, &code) in calls.iter().enumerate() {
+        set_cell(&mut record, i, code);
+    }
+    record
+}
+
+pub fn whole_records(table: &[u8]) -> impl Iterator<Item = &[u8]> {
+    table.chunks_exact(RECORD)
+}
+
+/// The largest start + span of the whole records, 0 if there are none.
+pub fn column_count(table: &[u8]) -> usize {
+    whole_records(table).map(|r| start(r) + span(r)).max().unwrap_or(0)
+}
+
+/// The cells of an accepted table, by fragment and then column.
+#[derive(Clone)]
+pub struct Matrix {
+    pub n: usize,
+    pub rows: Vec<Vec<u8>>,
+}
+
+impl Matrix {
+    pub fn read(table: &[u8], n: usize) -> Matrix {
+        Matrix { n, rows: whole_records(table).map(|r| row(r, n)).collect() }
+    }
+
+    pub fn m(&self) -> usize {
+        self.rows.len()
+    }
+
+    /// The fragments that call column c, as their number.
+    pub fn depth(&self, c: usize) -> usize {
+        self.rows.iter().filter(|row| row[c] != HOLE).count()
+    }
+}
+
+fn row(record: &[u8], n: usize) -> Vec<u8> {
+    let mut row = vec![HOLE; n];
+    for i in 0..span(record) {
+        row[start(record) + i] = cell(record, i);
+    }
+    row
+}

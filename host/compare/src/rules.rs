@@ -1,0 +1,85 @@
+//! The refusals of paper 01, in its order, straight from the bytes.
+
+use crate::record::{cell, span, start, tag, whole_records, Matrix, A, B, CELLS, HOLE, RECORD};
+
+pub const MOST_FRAGMENTS: usize = 128;
+pub const MOST_COLUMNS: usize = 128;
+pub const MOST_CALLS_OF_A_COLUMN: usize = 8;
+
+#[derive(Clone, Copy, PartialEq, Eq, Debug)]
+pub struct Refusal {
+    pub number: usize,
+    pub place: usize,
+}
+
+/// The first fault that the listing prints for the whole table: 3, 1, 2, and then the records by 4 to 9.
+pub fn table_fault(n: usize, table: &[u8]) -> Option<Refusal> {
+    size_fault(n, table).or_else(|| records_fault(n, table))
+}
+
+/// The first fault of a call of check: its answer's length (11) is tested between the sizes and the records.
+pub fn check_fault(n: usize, table: &[u8], answer_length: usize) -> Option<Refusal> {
+    size_fault(n, table)
+        .or_else(|| {
+            let exact = 3 * n + 2 * (table.len() / RECORD);
+            (answer_length != exact).then_some(Refusal { number: 11, place: 0 })
+        })
+        .or_else(|| records_fault(n, table))
+}
+
+/// C's own fault: over 8 calls in a column, the lowest such column.
+pub fn too_deep(matrix: &Matrix) -> Option<Refusal> {
+    (0..matrix.n).find(|&c| matrix.depth(c) > MOST_CALLS_OF_A_COLUMN).map(|place| Refusal { number: 12, place })
+}
+
+fn size_fault(n: usize, table: &[u8]) -> Option<Refusal> {
+    let broken =
+        [(3, n > MOST_COLUMNS), (1, !table.len().is_multiple_of(RECORD)), (2, table.len() / RECORD > MOST_FRAGMENTS)];
+    broken.iter().find(|rule| rule.1).map(|rule| Refusal { number: rule.0, place: 0 })
+}
+
+fn records_fault(n: usize, table: &[u8]) -> Option<Refusal> {
+    let records: Vec<&[u8]> = whole_records(table).collect();
+    (0..records.len()).find_map(|place| record_fault(n, &records, place).map(|number| Refusal { number, place }))
+}
+
+fn record_fault(n: usize, records: &[&[u8]], place: usize) -> Option<usize> {
+    let record = records[place];
+    if out_of_frame(n, record) {
+        Some(4)
+    } else if stray_bits(record) {
+        Some(5)
+    } else if (0..span(record)).any(|i| cell(record, i) == 3) {
+        Some(6)
+    } else if open_end(record) {
+        Some(7)
+    } else if gapped(record) {
+        Some(8)
+    } else if records[..place].iter().any(|earlier| tag(earlier) == tag(record)) {
+        Some(9)
+    } else {
+        None
+    }
+}
+
+fn out_of_frame(n: usize, record: &[u8]) -> bool {
+    span(record) > CELLS || start(record) + span(record) > n || span(record) == 0 && start(record) != 0
+}
+
+fn stray_bits(record: &[u8]) -> bool {
+    record[7] != 0 || (span(record)..CELLS).any(|i| cell(record, i) != 0)
+}
+
+fn open_end(record: &[u8]) -> bool {
+    let span = span(record);
+    span > 0 && (cell(record, 0) == HOLE || cell(record, span - 1) == HOLE)
+}
+
+fn gapped(record: &[u8]) -> bool {
+    let is_call = |i: &usize| matches!(cell(record, *i), A | B);
+    let calls: Vec<usize> = (0..span(record)).filter(is_call).collect();
+    match (calls.first(), calls.last()) {
+        (Some(&first), Some(&last)) => (first..last).any(|i| cell(record, i) == HOLE),
+        _ => false,
+    }
+}
