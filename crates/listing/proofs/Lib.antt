@@ -1,0 +1,5 @@
+pub mod AppendLaws
+pub mod NumberLaws
+pub mod LineLaws
+pub mod ListingLaws
+pub mod Trials
