@@ -1,5 +1,6 @@
 // Boundaries of the services, executed: each line is a call, its outcome, and whether it left the buffers that it was lent as they were.
 mod buffers;
+mod checking;
 mod corrections;
 mod finding;
 mod packing;
@@ -8,6 +9,8 @@ mod removals;
 mod tables;
 mod unpacking;
 
+use checking::check_sizes;
+use checking::check_verdicts;
 use corrections::correction_depths;
 use corrections::correction_orders;
 use corrections::correction_shapes;
@@ -29,6 +32,8 @@ fn main() {
     pack_sizes();
     pack_fragments();
     finds();
+    check_sizes();
+    check_verdicts();
     removal_sizes();
     removal_orders();
     removal_shapes();
