@@ -3,23 +3,25 @@
 use mathlib.Core.Path.{_≡_, refl, sym, ap, _∙_}
 use mathlib.Core.Logic.{inl, inr}
 use mathlib.Core.List.{List, [], _∷_, List·Memᴰ·head, List·Memᴰ·tail}
-use Prim.Native.Nat.{ℕ, _*_, _/_, _%_, _<_}
+use Prim.Native.Nat.{ℕ, _+_, _*_, _/_, _%_, _<_}
 use native.Mathlib.Nat.{eq-zero-or-pos, mul-zero, div-add-mod', div-lt-iff-lt-mul, mod-lt}
 use native.Mathlib.Omega.{arith}
 use lib.ListN.{length, getD}
 use lib.Seq.{ext-getD}
-use Rattle.records.specs.Below.{tab, concat}
+use denote.Ref.{RefT, now}
+use Rattle.records.specs.Below.{if_then_else_, _<?_, tab, concat}
 use Rattle.records.specs.Record.{codeAt}
-use Rattle.records.specs.Table.{fragments, recordAt, unpackedCells, unpackedTags}
+use Rattle.records.specs.Table.{fragments, recordAt, Part, partStart, partLength, unpackedCells, unpackedTags}
 use Rattle.records.specs.Outcome.{Verdict, accepted, refused}
 use Rattle.records.specs.Rules.{Rule, decide, sizeRules, tableRules}
-use Rattle.records.proofs.BelowLaws.{length-tab, getD-tab, is-true, is-false, eq-==, ne-isnt, T-isnt-isnt}
+use Rattle.records.proofs.BelowLaws.{if-true, lt-<?, length-tab, getD-tab, is-true, is-false, eq-==, ne-isnt, T-isnt-isnt}
 use Rattle.records.proofs.RuleLaws.{accepted-count, rule-broken, rule-kept, decide-none, stage-kept, stage-refused, stage-last, accepted-stage}
 use Rattle.conflicts.specs.Services.{written, lengthRule, unpackRules, unpackLeaves}
 use Rattle.conflicts.proofs.Outcomes.{unpack-refused}
 use Rattle.haplotypes.specs.Sizes.{Sized}
 use Rattle.haplotypes.proofs.SizeLaws.{sized-count}
 use Rattle.records.proofs.RowLaws.{length-flat, flat-at}
+use Rattle.records.proofs.PartLaws.{part-record}
 
 module _ (m n k : ℕ) (h : k < m * n) where
   pub some-columns : 0 < n
@@ -39,10 +41,20 @@ flat-tab m n f =
     ∙ sym (flat-at n f 0 m (k / n) (k % n) (row-of m n k h) (mod-lt k (some-columns m n k h)))
     ∙ ap (λ (j : ℕ). getD rows j 0) (div-add-mod' k n))
 
--- cell k is that of fragment k / n at column k % n
-pub cells-are : (n : ℕ) (table : List ℕ) → tab (fragments table * n) (λ k. codeAt (recordAt table (k / n)) (k % n)) ≡ unpackedCells n table
+-- the cells are m rows of n
+pub unpacked-length : (n : ℕ) (table : List ℕ) → length (unpackedCells n table) ≡ fragments table * n
 unfolding unpackedCells
-cells-are n table = flat-tab (fragments table) n (λ i. codeAt (recordAt table i))
+unpacked-length n table = length-flat n (λ i. codeAt (recordAt table i)) (fragments table)
+
+-- cell c of row i, from the part that record_at gave
+pub unpacked-row : (n : ℕ) (t : RefT (List ℕ)) (i c : ℕ) (part : RefT (List ℕ)) {first : ℕ} → first ≡ i * n → Part t (partStart (now t) i) (partLength (now t) i) part → i < fragments (now t) → c < n
+    → (if c <? n then codeAt (now part) c else 0) ≡ getD (unpackedCells n (now t)) (first + c) 0
+unfolding unpackedCells
+unpacked-row n t i c part e p g h =
+    if-true (c <? n) (codeAt (now part) c) 0 (lt-<? c n h)
+    ∙ ap (λ (l : List ℕ). codeAt l c) (part-record t i part p g)
+    ∙ sym (flat-at n (λ i. codeAt (recordAt (now t) i)) 0 (fragments (now t)) i c g h)
+    ∙ ap (λ (k : ℕ). getD (unpackedCells n (now t)) (k + c) 0) (sym e)
 
 -- ---- what an accepted unpack keeps and leaves
 

@@ -7,23 +7,24 @@ ghost use Rattle.records.specs.Outcome.{outcomeOf};
 ghost use Rattle.conflicts.specs.Services.{unpackLeaves};
 ghost use Rattle.haplotypes.specs.Sizes.{Sized};
 use records::Outcome;
-use records::code_at;
+use records::fill_row;
 use records::record_at;
 use records::records_fault;
 use records::size_fault;
 use records::tag;
 
-// Writes the m × n cells: cell k is that of fragment k / n at column k % n.
+// Writes the m × n cells, a row of n for each fragment.
 fn fill_cells(n: usize, table: &[u8], cells: &mut [u8])
     requires { ⌜ length (now cells) ≡ fragments (now table) * n ⌝ }
     ensures { λ _. ⌜ now (cells .exit) ≡ unpackedCells n (now (table .entry)) ⌝ }
 {
-    let mut k = 0;
-    while k < cells.len() {
-        let i = k / n;
-        let c = k % n;
-        cells[k] = code_at(record_at(table, i), c);
-        k += 1;
+    let m = table.len() / 32;
+    let mut first = 0;
+    let mut i = 0;
+    while i < m {
+        fill_row(n, record_at(table, i), &mut cells[first..first + n]);
+        first += n;
+        i += 1;
     }
 }
 

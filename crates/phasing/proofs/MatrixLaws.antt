@@ -9,7 +9,13 @@ use native.Mathlib.Decide.{decLt}
 use lib.Dec.{T}
 use lib.ListN.{length, getD, set, List·getD-eq-default}
 use Rattle.records.specs.Below.{if_then_else_, bit, tab, _<?_, _and_}
-use Rattle.records.specs.Record.{isCall}
+use denote.Ref.{RefT, now}
+use Rattle.records.specs.Record.{isCall, codeAt}
+use Rattle.records.specs.Table.{fragments, recordAt, Part, partStart, partLength}
+use Rattle.records.proofs.SearchLaws.{<?-true, <?-false}
+use Rattle.records.proofs.FieldLaws.{codeAt-nil}
+use Rattle.records.proofs.PartLaws.{part-record, part-past}
+use Rattle.phasing.proofs.PairLaws.{and-true, if-first}
 use Rattle.records.proofs.BelowLaws.{both, left-of, right-of, anyBelow-at, anyBelow-of, same-test, if-ind, <?-lt, length-tab, getD-tab, any-ext}
 use Rattle.records.proofs.FillLaws.{Filled, filled-more}
 use Rattle.conflicts.specs.Choice.{marked}
@@ -147,3 +153,29 @@ pub labels-of : (blocks : Bool) (g : Grid) (cols frags labels : List ℕ) → g 
 labels-of blocks g cols frags labels few size long st =
     are-lowests (g .m) few frags labels (marks (pairMatrix blocks g cols frags)) (matrix-links blocks g cols frags few size) long st
     ∙ matrix-lowests blocks g cols frags few size
+
+-- ---- the matrix of a table's cells, row by row
+
+-- its entry at place k
+abbrev pub tableCell : ℕ → List ℕ → ℕ → ℕ
+tableCell n table k = if k / 128 <? fragments table and k % 128 <? n then codeAt (recordAt table (k / 128)) (k % 128) else 0
+
+-- a row's entry, from the part that record_at gave
+pub table-row : (n : ℕ) (t : RefT (List ℕ)) (i c : ℕ) (part : RefT (List ℕ)) → Part t (partStart (now t) i) (partLength (now t) i) part → c < 128
+    → (if c <? n then codeAt (now part) c else 0) ≡ tableCell n (now t) (128 * i + c)
+table-row n t i c part p h =
+    let m = fragments (now t) in
+    let q : i ≡ (128 * i + c) / 128 = omega arith in
+    let r : c ≡ (128 * i + c) % 128 = omega arith in
+    let place = ap₂ (λ (i c : ℕ). if i <? m and c <? n then codeAt (recordAt (now t) i) c else 0) q r in
+    elim (decLt i m) [
+      | yes g ↦
+          ap (λ (l : List ℕ). if c <? n then codeAt l c else 0) (part-record t i part p g)
+          ∙ ap (λ (b : Bool). if b then codeAt (recordAt (now t) i) c else 0) (and-true (c <? n) (<?-true i m g))
+          ∙ place
+      | no g ↦
+          ap (λ (l : List ℕ). if c <? n then codeAt l c else 0) (part-past t i part p (omega arith))
+          ∙ if-ind (λ x. x ≡ 0) (c <? n) (λ s. codeAt-nil c) (λ s. refl)
+          ∙ if-first (c <? n) (codeAt (recordAt (now t) i) c) 0 (<?-false i m (omega arith))
+          ∙ place
+    ]

@@ -4,12 +4,13 @@ use mathlib.Core.Path.{_≡_, refl, _∙_, ap₂, sym, ap}
 use mathlib.Core.List.{List, [], _∷_}
 use Prim.Native.Nat.{ℕ, _+_, _*_, _-_, _/_, _%_, _^_, _≤_, _<_}
 use native.Mathlib.Omega.{arith}
+use native.Mathlib.Decide.{decLe}
 use lib.ListN.{getD, take, drop}
 use lib.Seq.{getD-drop}
 use Rattle.records.specs.Below.{tab, _<?_, _≤?_, _and_}
-use Rattle.records.specs.Record.{littleEndian, tagOf, startOf, spanOf, cellOf, codeAt}
-use Rattle.records.proofs.ByteLaws.{cell-in}
-use Rattle.records.proofs.BelowLaws.{getD-tab, if-true, if-false, both, left-of, right-of, isnt-T, lt-<?, <?-lt, le-≤?, ≤?-le}
+use Rattle.records.specs.Record.{littleEndian, tagOf, startOf, spanOf, cellOf, cellBytesOf, copiedCell, copiedCode, codeAt}
+use Rattle.records.proofs.ByteLaws.{cell-in, cell-past}
+use Rattle.records.proofs.BelowLaws.{getD-tab, if-true, if-false, le-isnt, both, left-of, right-of, isnt-T, lt-<?, <?-lt, le-≤?, ≤?-le}
 
 two-bytes : (l : List ℕ) → littleEndian (take 2 l) ≡ getD l 0 0 + 256 * getD l 1 0
 unfolding littleEndian
@@ -29,12 +30,28 @@ pub start-bytes : (r : List ℕ) → startOf r ≡ getD r 4 0 + 256 * getD r 5 0
 unfolding startOf
 start-bytes r = two-bytes (drop 4 r) ∙ ap₂ (λ (x y : ℕ). x + 256 * y) (getD-drop 4 r 0 0) (getD-drop 4 r 1 0)
 
--- cell i, read from a copy of bytes 8 to 31
-pub cell-copied : (r copy : List ℕ) (i q : ℕ) → i < 96 → copy ≡ tab 24 (λ k. getD r (8 + k) 0) → i % 4 ≡ q → getD copy (i / 4) 0 / 4 ^ q % 4 ≡ cellOf r i
-cell-copied r copy i q h e f =
-    ap₂ (λ (l : List ℕ) (k : ℕ). getD l (i / 4) 0 / 4 ^ k % 4) e (sym f)
-    ∙ ap (λ (b : ℕ). b / 4 ^ (i % 4) % 4) (getD-tab 24 (λ k. getD r (8 + k) 0) (i / 4) 0 (omega arith))
-    ∙ sym (cell-in r i h)
+-- cell i of a copy of bytes 8 to 31
+pub copied-in : (copy : List ℕ) (i q : ℕ) → i < 96 → i % 4 ≡ q → getD copy (i / 4) 0 / 4 ^ q % 4 ≡ copiedCell copy i
+unfolding copiedCell
+copied-in copy i q h f = ap (λ (k : ℕ). getD copy (i / 4) 0 / 4 ^ k % 4) (sym f) ∙ sym (if-true (i <? 96) _ _ (lt-<? i 96 h))
+
+pub copied-past : (copy : List ℕ) (i : ℕ) → 96 ≤ i → copiedCell copy i ≡ 0
+unfolding copiedCell
+copied-past copy i h = if-false (i <? 96) _ _ (le-isnt i 96 h)
+
+-- it is the record's cell
+pub copied-cell : (r copy : List ℕ) (i : ℕ) → copy ≡ cellBytesOf r → copiedCell copy i ≡ cellOf r i
+unfolding copiedCell cellBytesOf
+copied-cell r copy i e =
+    elim (decLe 96 i) [
+      | yes past ↦ copied-past copy i past ∙ sym (cell-past r i past)
+      | no before ↦
+          let h : i < 96 = omega arith in
+          sym (copied-in copy i (i % 4) h refl)
+          ∙ ap (λ (l : List ℕ). getD l (i / 4) 0 / 4 ^ (i % 4) % 4) e
+          ∙ ap (λ (b : ℕ). b / 4 ^ (i % 4) % 4) (getD-tab 24 (λ k. getD r (8 + k) 0) (i / 4) 0 (omega arith))
+          ∙ sym (cell-in r i h)
+    ]
 
 -- ---- the code at a column
 
@@ -47,3 +64,23 @@ unfolding codeAt
 codeAt-out r c f =
     if-false (startOf r ≤? c and c <? startOf r + spanOf r) _ _
     (isnt-T _ (λ t. let a = f (≤?-le _ _ (left-of _ _ t)) in let b = <?-lt _ _ (right-of _ _ t) in absurd (omega arith)))
+
+-- no bytes have no calls
+pub codeAt-nil : (c : ℕ) → codeAt [] c ≡ 0
+unfolding startOf spanOf littleEndian
+codeAt-nil c = codeAt-out [] c (λ h. h)
+
+-- the same by start, span and a copy of the cell bytes
+pub copied-code-in : (s k : ℕ) (copy : List ℕ) (c : ℕ) → s ≤ c → c < s + k → copiedCode s k copy c ≡ copiedCell copy (c - s)
+unfolding copiedCode
+copied-code-in s k copy c a b = if-true (s ≤? c and c <? s + k) _ _ (both _ _ (le-≤? s c a) (lt-<? c (s + k) b))
+
+pub copied-code-out : (s k : ℕ) (copy : List ℕ) (c : ℕ) → (s ≤ c → s + k ≤ c) → copiedCode s k copy c ≡ 0
+unfolding copiedCode
+copied-code-out s k copy c f =
+    if-false (s ≤? c and c <? s + k) _ _
+    (isnt-T _ (λ t. let a = f (≤?-le _ _ (left-of _ _ t)) in let b = <?-lt _ _ (right-of _ _ t) in absurd (omega arith)))
+
+pub copied-code : (r : List ℕ) {s k : ℕ} {copy : List ℕ} (c : ℕ) → s ≡ startOf r → k ≡ spanOf r → copy ≡ cellBytesOf r → copiedCode s k copy c ≡ codeAt r c
+unfolding copiedCode codeAt
+copied-code r c es ek e = rw (es, ek, copied-cell r _ (c - startOf r) e)

@@ -1,12 +1,14 @@
 -- A list that a loop fills from the front: below the counter it holds what f says.
 -- Assumes nothing.
-use mathlib.Core.Path.{_≡_, sym, _∙_}
+use mathlib.Core.Path.{_≡_, sym, ap, _∙_}
 use mathlib.Core.List.{List}
-use Prim.Native.Nat.{ℕ, _+_, _<_, _≤_}
+use Prim.Native.Nat.{ℕ, _+_, _-_, _<_, _≤_}
 use native.Mathlib.Omega.{arith}
-use lib.ListN.{length, getD, set, replicate, length-set, length-replicate, getD-replicate}
-use lib.Seq.{getD-set-same, getD-set-other, ext-getD}
+use native.Mathlib.Decide.{decLe}
+use lib.ListN.{length, getD, set, take, replicate, List·getD-append, length-set, length-replicate, getD-replicate}
+use lib.Seq.{length-take-le, getD-take, getD-append-add, getD-set-same, getD-set-other, ext-getD}
 use borrow.Author.Count.{below-more}
+use borrow.Rule.Slice.PartMut.{putMid}
 use Rattle.records.specs.Below.{tab}
 use Rattle.records.proofs.BelowLaws.{length-tab, getD-tab}
 
@@ -28,6 +30,35 @@ module _ (n : ℕ) (f : ℕ → ℕ) where
         done =
             below-more (λ (j : ℕ). getD (set l k v) j 0 ≡ f j) k (λ j g. getD-set-other l k j v 0 (λ q. omega arith) ∙ filled .done j g)
             (getD-set-same l k v 0 (omega arith) ∙ e);
+      }
+
+  -- a part that is written at once
+  pub filled-part : (k w : ℕ) (l part : List ℕ) → Filled n f k l → k + w ≤ n → length (putMid k (k + w - k) l part) ≡ length l → part ≡ tab w (λ c. f (k + c))
+      → Filled n f (k + w) (putMid k (k + w - k) l part)
+  filled-part k w l part filled h same e =
+      let s = filled .sized in
+      let front : length (take k l) ≡ k = length-take-le k l (omega arith) in
+      let long : length part ≡ w = ap length e ∙ length-tab w _ in
+      record {
+        within = h;
+        sized = same ∙ s;
+        done = λ j g. elim (decLe k j) [
+          | yes a ↦
+              let c = j - k in
+              let l1 : c < w = omega arith in
+              let l2 : c < length part = omega arith in
+              let at : length (take k l) + c ≡ j = omega arith in
+              ap (λ (i : ℕ). getD (putMid k (k + w - k) l part) i 0) (sym at)
+              ∙ getD-append-add (take k l) _ c 0
+              ∙ List·getD-append part _ 0 c l2
+              ∙ ap (λ (x : List ℕ). getD x c 0) e
+              ∙ getD-tab w (λ c. f (k + c)) c 0 l1
+              ∙ ap f (omega arith)
+          | no b ↦
+              let b1 : j < k = omega arith in
+              let b2 : j < length (take k l) = omega arith in
+              List·getD-append (take k l) _ 0 j b2 ∙ getD-take k l j 0 b1 ∙ filled .done j b1
+        ];
       }
 
   pub filled-all : (k : ℕ) (l : List ℕ) → Filled n f k l → n ≤ k → l ≡ tab n f

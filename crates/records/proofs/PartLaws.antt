@@ -1,7 +1,7 @@
 -- Where record i lies in a table, and the bytes that it has.
 -- Assumes nothing.
 use mathlib.Core.Path.{_≡_, ap, ap₂, _∙_}
-use mathlib.Core.List.{List}
+use mathlib.Core.List.{List, []}
 use Prim.Native.Nat.{ℕ, _+_, _*_, _<_, _≤_}
 use native.Mathlib.Nat.{add-comm}
 use lib.ListN.{length, take, drop}
@@ -33,6 +33,10 @@ module _ (t : List ℕ) (i : ℕ) where
 -- a part that record_at gave, by the record that it is
 pub part-record : (t : RefT (List ℕ)) (i : ℕ) (part : RefT (List ℕ)) → Part t (partStart (now t) i) (partLength (now t) i) part → i < fragments (now t) → now part ≡ recordAt (now t) i
 part-record t i part p h = p .bytes ∙ record-in (now t) i h
+
+-- past the whole records it is empty
+pub part-past : (t : RefT (List ℕ)) (i : ℕ) (part : RefT (List ℕ)) → Part t (partStart (now t) i) (partLength (now t) i) part → fragments (now t) ≤ i → now part ≡ []
+part-past t i part p h = p .bytes ∙ ap (λ (k : ℕ). take k (drop (partStart (now t) i) (now t))) (length-past (now t) i h)
 
 -- a part as the borrow checker has it, put as `Part` has it
 pub place-at : (b o : ℕ) {a x : ℕ} → a ≡ x → _≡_ {A = ℕ × ℕ} (b, a + o) (b, o + x)

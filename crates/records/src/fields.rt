@@ -1,9 +1,7 @@
 // A record's fields and cells. Each reader takes any bytes: one past the end counts as 0.
 ghost use mathlib.Core.Path.{_≡_};
-ghost use Prim.Native.Nat.{_+_, _<_};
 ghost use lib.ListN.{getD};
-ghost use Rattle.records.specs.Record.{tagOf, startOf, spanOf, byte7Of, cellOf, codeAt};
-ghost use Rattle.records.specs.Below.{tab};
+ghost use Rattle.records.specs.Record.{tagOf, startOf, spanOf, byte7Of, cellOf, cellBytesOf, copiedCell, copiedCode, codeAt};
 
 // Byte i, or 0 past the end.
 pub fn byte(part: &[u8], i: usize) -> u8
@@ -47,8 +45,8 @@ pub fn byte7(part: &[u8]) -> u8
 }
 
 // A copy of bytes 8 to 31.
-fn cell_bytes(part: &[u8]) -> [u8; 24]
-    ensures { λ r. ⌜ r ≡ tab 24 (λ k. getD (now (part .entry)) (8 + k) 0) ⌝ }
+pub(crate) fn cell_bytes(part: &[u8]) -> [u8; 24]
+    ensures { λ r. ⌜ r ≡ cellBytesOf (now (part .entry)) ⌝ }
 {
     let mut copy = [0u8; 24];
     let mut k = 0;
@@ -59,14 +57,13 @@ fn cell_bytes(part: &[u8]) -> [u8; 24]
     copy
 }
 
-// The code of cell i, read from a copy of bytes 8 to 31; 0 from cell 96 on.
-pub fn cell(part: &[u8], i: usize) -> u8
-    ensures { λ r. ⌜ r ≡ cellOf (now (part .entry)) i ⌝ }
+// The code of cell i in a copy of bytes 8 to 31; 0 from cell 96 on.
+pub(crate) fn copied_cell(copy: &[u8; 24], i: usize) -> u8
+    ensures { λ r. ⌜ r ≡ copiedCell (now (copy .entry)) i ⌝ }
 {
     if 96 <= i {
         return 0;
     }
-    let copy = cell_bytes(part);
     let b = copy[i / 4];
     match i % 4 {
         0 => b % 4,
@@ -76,17 +73,34 @@ pub fn cell(part: &[u8], i: usize) -> u8
     }
 }
 
+// The code of cell i, read from a copy of bytes 8 to 31; 0 from cell 96 on.
+pub fn cell(part: &[u8], i: usize) -> u8
+    ensures { λ r. ⌜ r ≡ cellOf (now (part .entry)) i ⌝ }
+{
+    let copy = cell_bytes(part);
+    copied_cell(&copy, i)
+}
+
+// The code at column c of a record with this start, span and copy of the cell bytes; a hole outside the span.
+pub(crate) fn copied_code(start: usize, span: usize, copy: &[u8; 24], c: usize) -> u8
+    ensures { λ r. ⌜ r ≡ copiedCode start span (now (copy .entry)) c ⌝ }
+{
+    if c < start {
+        return 0;
+    }
+    let i = c - start;
+    if span <= i {
+        return 0;
+    }
+    copied_cell(copy, i)
+}
+
 // The code at column c, a hole outside the span.
 pub fn code_at(part: &[u8], c: usize) -> u8
     ensures { λ r. ⌜ r ≡ codeAt (now (part .entry)) c ⌝ }
 {
     let s = start(part) as usize;
     let k = span(part) as usize;
-    if c < s {
-        return 0;
-    }
-    if s + k <= c {
-        return 0;
-    }
-    cell(part, c - s)
+    let copy = cell_bytes(part);
+    copied_code(s, k, &copy, c)
 }

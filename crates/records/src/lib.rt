@@ -1,6 +1,7 @@
 // Records of 32 bytes: their fields and cells, the rules of a table, and records written from calls.
 
 mod fields;
+mod rows;
 mod rules;
 mod table;
 mod writing;
@@ -12,6 +13,7 @@ pub use fields::code_at;
 pub use fields::span;
 pub use fields::start;
 pub use fields::tag;
+pub use rows::fill_row;
 pub use rules::records_fault;
 pub use rules::size_fault;
 pub use rules::table_fault;

@@ -2,24 +2,40 @@
 ghost use mathlib.Core.Path.{_≡_};
 ghost use Prim.Native.Nat.{_<_, _≤_};
 ghost use Rattle.records.specs.Below.{_==_, _≤?_, _and_, isnt, anyBelow};
-ghost use Rattle.records.specs.Record.{tagOf, spanOf, cellOf};
+ghost use Rattle.records.specs.Record.{tagOf, spanOf, cellOf, copiedCell};
 ghost use Rattle.records.specs.Table.{fragments, recordAt};
 ghost use Rattle.records.specs.Outcome.{accepted, outcomeOf};
 ghost use Rattle.records.specs.Rules.{decide, outOfFrame, strayBits, openEnd, recordRules, tableRules, sizeRules, tableVerdict};
 use crate::Outcome;
 use crate::fields::byte7;
 use crate::fields::cell;
+use crate::fields::cell_bytes;
+use crate::fields::copied_cell;
 use crate::fields::span;
 use crate::fields::start;
 use crate::fields::tag;
 use crate::table::record_at;
 
-// Whether cell k lies after the span and is not 0.
-fn stray(part: &[u8], k: usize) -> bool
-    ensures { λ r. ⌜ r ≡ (spanOf (now (part .entry)) ≤? k and isnt (cellOf (now (part .entry)) k == 0)) ⌝ }
+// Whether cell k lies after the span and is not 0, in a copy of the cell bytes.
+fn stray(copy: &[u8; 24], span: usize, k: usize) -> bool
+    ensures { λ r. ⌜ r ≡ (span ≤? k and isnt (copiedCell (now (copy .entry)) k == 0)) ⌝ }
 {
-    if span(part) as usize <= k {
-        return cell(part, k) != 0;
+    if span <= k {
+        return copied_cell(copy, k) != 0;
+    }
+    false
+}
+
+// Whether any cell lies after the span and is not 0, in a copy of the cell bytes.
+fn any_copied_stray(copy: &[u8; 24], span: usize) -> bool
+    ensures { λ r. ⌜ r ≡ anyBelow 96 (λ k. span ≤? k and isnt (copiedCell (now (copy .entry)) k == 0)) ⌝ }
+{
+    let mut k = 0;
+    while k < 96 {
+        if stray(copy, span, k) {
+            return true;
+        }
+        k += 1;
     }
     false
 }
@@ -28,9 +44,18 @@ fn stray(part: &[u8], k: usize) -> bool
 fn any_stray(part: &[u8]) -> bool
     ensures { λ r. ⌜ r ≡ anyBelow 96 (λ k. spanOf (now (part .entry)) ≤? k and isnt (cellOf (now (part .entry)) k == 0)) ⌝ }
 {
+    let end = span(part) as usize;
+    let copy = cell_bytes(part);
+    any_copied_stray(&copy, end)
+}
+
+// Whether one of the first cells has the code, in a copy of the cell bytes.
+fn any_copied_code(copy: &[u8; 24], end: usize, code: u8) -> bool
+    ensures { λ r. ⌜ r ≡ anyBelow end (λ k. copiedCell (now (copy .entry)) k == code) ⌝ }
+{
     let mut k = 0;
-    while k < 96 {
-        if stray(part, k) {
+    while k < end {
+        if copied_cell(copy, k) == code {
             return true;
         }
         k += 1;
@@ -43,14 +68,8 @@ fn any_code(part: &[u8], code: u8) -> bool
     ensures { λ r. ⌜ r ≡ anyBelow (spanOf (now (part .entry))) (λ k. cellOf (now (part .entry)) k == code) ⌝ }
 {
     let end = span(part) as usize;
-    let mut k = 0;
-    while k < end {
-        if cell(part, k) == code {
-            return true;
-        }
-        k += 1;
-    }
-    false
+    let copy = cell_bytes(part);
+    any_copied_code(&copy, end, code)
 }
 
 // Whether a record before i has the tag.

@@ -1,58 +1,106 @@
-use Prim.Native.Nat.{ℕ, _*_, _-_, _/_, _%_, _<_}
-use mathlib.Core.Path.{sym, ap, _∙_}
-use mathlib.Core.List.{List}
-use Rattle.records.specs.Record.{codeAt}
-use Rattle.records.specs.Table.{fragments, recordAt}
-use Rattle.records.proofs.PartLaws.{part-record}
-use Rattle.records.proofs.FillLaws.{Filled, filled-none, filled-more, filled-all}
-use Rattle.haplotypes.proofs.UnpackLaws.{some-columns, row-of, cells-are}
-use borrow.Author.Needs.{needs}
+-- `haplotypes::unpacking::fill_cells` meets its contract. The invariant: the rows before fragment i stand in the cells, and the next one starts at cell i × n.
+-- Assumes nothing.
+use mathlib.Core.Path.{_≡_, refl, sym, ap, _∙_}
+use Prim.Native.Nat.{ℕ, _+_, _*_, _-_, _≤_, _<_}
 use native.Mathlib.Omega.{arith}
+use native.Mathlib.Nat.{zero-mul, add-sub-cancel-left, mul-le-mul-right}
+use lib.ListN.{getD}
+use borrow.Author.Needs.{needs}
+use borrow.Rule.Slice.PartMut.{same-len-mid, mid-len}
+use Rattle.records.specs.Below.{if_then_else_, _<?_, tab}
+use Rattle.records.specs.Record.{codeAt}
+use Rattle.records.specs.Table.{fragments, unpackedCells}
+use Rattle.records.proofs.FillLaws.{Filled, filled-none, filled-part, filled-all}
+use Rattle.records.proofs.RowLaws.{tab-ext, tab-again, row-within}
+use Rattle.haplotypes.proofs.UnpackLaws.{unpacked-row, unpacked-length}
+use Rattle.haplotypes.proofs.PackLaws.{row-next}
 use Rattle.haplotypes.proofs.unpacking.fill_cells.Statement.{statement}
 use Rattle.haplotypes.proofs.unpacking.fill_cells.Tie as tie
 
 abbrev Inv-loop : tie.InvT-loop
-Inv-loop n table cells₀ k₀ cells k = Filled (fragments table * n) (λ j. codeAt (recordAt table (j / n)) (j % n)) k cells
+Inv-loop n table cells₀ m first₀ i₀ cells first i =
+    (m ≡ fragments table) × Filled (fragments table * n) (λ k. getD (unpackedCells n table) k 0) first cells × (first ≡ i * n)
 
 abbrev μ-loop : tie.MeasureT-loop
-μ-loop n table cells₀ k₀ cells k = fragments table * n - k
+μ-loop n table cells₀ m first₀ i₀ cells first i = m - i
 
--- the turn's cell is one of the m × n
-in-range : (c : tie.In-loop Inv-loop μ-loop) → c .before .loop .k < fragments (c .before .before .before .before .args .table .now) * c .before .before .before .before .args .n
-in-range c = omega (arith, c .before .loop .inv .sized)
+-- the turn's fragment is one of the m
+fragment-in : (c : tie.After-record-at Inv-loop μ-loop) → c .before .before .loop .i < fragments (c .before .before .before .before .before .args .table .now)
+fragment-in c = let e = c .before .before .loop .inv .0 in omega arith
+
+-- its row lies within the cells
+row-in : (c : tie.After-record-at Inv-loop μ-loop)
+    → c .before .before .loop .first + c .before .before .before .before .before .args .n ≤ fragments (c .before .before .before .before .before .args .table .now) * c .before .before .before .before .before .args .n
+row-in c =
+    let e = c .before .before .loop .inv .2 in
+    let a = c .before .before .before .before .before .args in
+    let r = row-within (fragments (a .table .now)) (a .n) (c .before .before .loop .i) (fragment-in c) in
+    omega arith
 
 loop-holds : tie.Need-loop-holds Inv-loop μ-loop
-loop-holds c = filled-none _ _ _ (c .before .before .pre)
-
-div-i : tie.Need-div-i Inv-loop μ-loop
-div-i c = let p = some-columns _ _ _ (in-range c) in omega arith
-
-rem-c : tie.Need-rem-c Inv-loop μ-loop
-rem-c c = let p = some-columns _ _ _ (in-range c) in omega arith
+unfolding fragments
+loop-holds c = (refl, filled-none _ _ _ (c .before .before .pre), sym (zero-mul _))
 
 record-at-requires : tie.Need-record-at-requires Inv-loop μ-loop
 record-at-requires c κs = search needs
 
-code-at-requires : tie.Need-code-at-requires Inv-loop μ-loop
-code-at-requires c κs = search needs
+add-fill-row : tie.Need-add-fill-row Inv-loop μ-loop
+add-fill-row c = let r = row-in c in let s = c .before .before .loop .inv .1 .sized in omega arith
 
-slice-write-cells : tie.Need-slice-write-cells Inv-loop μ-loop
-slice-write-cells c = search needs
+sub-fill-row : tie.Need-sub-fill-row Inv-loop μ-loop
+sub-fill-row c = search needs
 
-add-k : tie.Need-add-k Inv-loop μ-loop
-add-k c = search needs
+part-fill-row-start : tie.Need-part-fill-row-start Inv-loop μ-loop
+part-fill-row-start c = search needs
+
+part-fill-row-end : tie.Need-part-fill-row-end Inv-loop μ-loop
+part-fill-row-end c = let r = row-in c in let s = c .before .before .loop .inv .1 .sized in omega arith
+
+fill-row-requires : tie.Need-fill-row-requires Inv-loop μ-loop
+fill-row-requires c κs = search needs
+
+add-first : tie.Need-add-first Inv-loop μ-loop
+add-first c = let r = row-in (c .before .before .before .before) in let s = c .before .before .before .before .before .before .loop .inv .1 .sized in omega arith
+
+add-i : tie.Need-add-i Inv-loop μ-loop
+add-i c = search needs
 
 loop-less : tie.Need-loop-less Inv-loop μ-loop
 loop-less c = search needs
 
 loop-again : tie.Need-loop-again Inv-loop μ-loop
-loop-again c = filled-more _ _ (c .before .before .before .loop .k) (c .before .before .before .loop .cells) _ (c .before .before .before .loop .inv) (in-range (c .before .before)) (c .code-at .ensures ∙ ap (λ (r : List ℕ). codeAt r (c .before .before .before .loop .k % c .before .before .before .before .before .before .args .n)) (part-record _ _ _ (c .before .record-at .ensures) (row-of _ _ _ (in-range (c .before .before)))))
+loop-again c =
+    let w = c .before .before .fill-row in
+    let s = c .before .before .before .before in
+    let l = s .before .before .loop in
+    let a = s .before .before .before .before .before .args in
+    let end = l .first + a .n in
+    let r = row-in s in
+    let sized = l .inv .1 .sized in
+    let long = mid-len (l .first) end (l .cells) (omega arith) ∙ add-sub-cancel-left (l .first) (a .n) in (
+      l .inv .0,
+      filled-part _ _ (l .first) (a .n) (l .cells) (w .last .1 .1 .0) (l .inv .1) r (same-len-mid (l .first) (end - l .first) (l .cells) (w .last .1 .1 .0) (w .kept .1 .1 .0))
+          (w .ensures
+          ∙ ap (λ (k : ℕ). tab k (λ q. if q <? a .n then codeAt (s .record-at .result .now) q else 0)) long
+          ∙ tab-ext (a .n) _ _ (λ q h. unpacked-row (a .n) (a .table) (l .i) q (s .record-at .result) (l .inv .2) (s .record-at .ensures) (fragment-in s) h)),
+      row-next (l .i) (a .n) (l .inv .2),
+    )
 
 same-length : tie.Need-same-length Inv-loop μ-loop
-same-length c = c .before .loop .inv .sized ∙ sym (c .before .before .before .before .pre)
+same-length c = c .before .loop .inv .1 .sized ∙ sym (c .before .before .before .before .pre)
 
 returns : tie.Need-returns Inv-loop μ-loop
-returns c = filled-all _ _ (c .before .loop .k) (c .before .loop .cells) (c .before .loop .inv) (omega (arith, c .before .loop .inv .sized)) ∙ cells-are _ _
+returns c =
+    let l = c .before .loop in
+    let a = c .before .before .before .before .args in
+    let cells = unpackedCells (a .n) (a .table .now) in
+    let e = l .inv .0 in
+    let h : fragments (a .table .now) ≤ l .i = omega arith in
+    let all = mul-le-mul-right (a .n) h in
+    let first = l .inv .2 in
+    filled-all _ _ (l .first) (l .cells) (l .inv .1) (omega arith)
+    ∙ ap (λ (k : ℕ). tab k (λ j. getD cells j 0)) (sym (unpacked-length (a .n) (a .table .now)))
+    ∙ tab-again 0 cells
 
 pub fill-cells-spec : {M : Type 1} → statement M
 fill-cells-spec =
@@ -61,12 +109,14 @@ fill-cells-spec =
     Inv-loop
     μ-loop
     loop-holds
-    div-i
-    rem-c
     record-at-requires
-    code-at-requires
-    slice-write-cells
-    add-k
+    add-fill-row
+    sub-fill-row
+    part-fill-row-start
+    part-fill-row-end
+    fill-row-requires
+    add-first
+    add-i
     loop-less
     loop-again
     same-length

@@ -1,6 +1,7 @@
 use lib.ListN.{getD}
 use mathlib.Core.Path.{refl}
 use Prim.Native.Nat.{_+_, _-_}
+use Rattle.records.specs.Record.{cellBytesOf}
 use Rattle.records.proofs.FillLaws.{Filled, filled-none, filled-more, filled-all}
 use borrow.Author.Needs.{needs}
 use native.Mathlib.Omega.{arith}
@@ -35,6 +36,7 @@ loop-again : tie.Need-loop-again Inv-loop μ-loop
 loop-again c = filled-more 24 _ (c .before .before .loop .k) (c .before .before .loop .copy) (c .byte .result) (c .before .before .loop .inv) (omega arith) (c .byte .ensures)
 
 returns : tie.Need-returns Inv-loop μ-loop
+unfolding cellBytesOf
 returns c = filled-all 24 _ (c .before .loop .k) (c .before .loop .copy) (c .before .loop .inv) (omega arith)
 
 pub cell-bytes-spec : {M : Type 1} → statement M

@@ -1,6 +1,5 @@
-use mathlib.Core.Path.{sym}
-use Rattle.records.proofs.FieldLaws.{codeAt-in, codeAt-out}
-use native.Mathlib.Omega.{arith}
+use mathlib.Core.Path.{_∙_}
+use Rattle.records.proofs.FieldLaws.{copied-code}
 use borrow.Author.Needs.{needs}
 use Rattle.records.proofs.fields.code_at.Statement.{statement}
 use Rattle.records.proofs.fields.code_at.Tie as tie
@@ -17,20 +16,19 @@ span-requires c κs = search needs
 cast-k : tie.Need-cast-k
 cast-k c = search needs
 
+cell-bytes-requires : tie.Need-cell-bytes-requires
+cell-bytes-requires c κs = search needs
+
+copied-code-requires : tie.Need-copied-code-requires
+copied-code-requires c κs = search needs
+
 returns : tie.Need-returns
-returns c = sym (codeAt-out (c .before .before .before .before .args .part .now) (c .before .before .before .before .args .c) (λ h. omega arith))
-
-add-if2 : tie.Need-add-if2
-add-if2 c = search needs
-
-returns-2 : tie.Need-returns-2
-returns-2 c = sym (codeAt-out (c .before .before .before .before .before .args .part .now) (c .before .before .before .before .before .args .c) (λ h. omega arith))
-
-cell-requires : tie.Need-cell-requires
-cell-requires c κs = search needs
-
-returns-3 : tie.Need-returns-3
-returns-3 c = rw (codeAt-in (c .before .before .before .before .before .before .args .part .now) (c .before .before .before .before .before .before .args .c) (omega arith) (omega arith), ← c .before .before .before .before .start .ensures) (c .cell .ensures)
+returns c =
+    let copied = c .before .before in
+    let spanned = copied .before in
+    let started = spanned .before in
+    let a = started .before .before .args in
+    c .copied-code .ensures ∙ copied-code (a .part .now) (a .c) (started .start .ensures) (spanned .span .ensures) (copied .cell-bytes .ensures)
 
 pub code-at-spec : {M : Type 1} → statement M
 code-at-spec =
@@ -40,8 +38,6 @@ code-at-spec =
     cast-s
     span-requires
     cast-k
-    returns
-    add-if2
-    returns-2
-    cell-requires
-    returns-3)
+    cell-bytes-requires
+    copied-code-requires
+    returns)

@@ -1,50 +1,26 @@
-use Prim.Native.Nat.{_-_, _≤_}
-use mathlib.Core.Path.{sym, _∙_}
+use Prim.Native.Nat.{ℕ}
+use mathlib.Core.Path.{ap₂, _∙_}
 use Rattle.records.specs.Below.{_==_, _≤?_, _and_, isnt}
-use Rattle.records.specs.Record.{spanOf, cellOf}
-use Rattle.records.proofs.SearchLaws.{NoneBelow, none-yet, none-more, any-hit, any-none}
+use Rattle.records.proofs.BelowLaws.{any-ext}
+use Rattle.records.proofs.FieldLaws.{copied-cell}
 use borrow.Author.Needs.{needs}
-use native.Mathlib.Omega.{arith}
 use Rattle.records.proofs.rules.any_stray.Statement.{statement}
 use Rattle.records.proofs.rules.any_stray.Tie as tie
 
-abbrev Inv-loop : tie.InvT-loop
-Inv-loop part k₀ k = (k ≤ 96) × NoneBelow k (λ j. spanOf part ≤? j and isnt (cellOf part j == 0))
+span-requires : tie.Need-span-requires
+span-requires c κs = search needs
 
-abbrev μ-loop : tie.MeasureT-loop
-μ-loop part k₀ k = 96 - k
+cast-end : tie.Need-cast-end
+cast-end c = search needs
 
-loop-holds : tie.Need-loop-holds Inv-loop μ-loop
-loop-holds c = (search needs, none-yet _)
+cell-bytes-requires : tie.Need-cell-bytes-requires
+cell-bytes-requires c κs = search needs
 
-stray-requires : tie.Need-stray-requires Inv-loop μ-loop
-stray-requires c κs = search needs
+any-copied-stray-requires : tie.Need-any-copied-stray-requires
+any-copied-stray-requires c κs = search needs
 
-returns : tie.Need-returns Inv-loop μ-loop
-returns c = sym (any-hit 96 _ (c .before .before .before .loop .k) (omega arith) (sym (c .before .stray .ensures) ∙ c .if1 .taken))
-
-add-k : tie.Need-add-k Inv-loop μ-loop
-add-k c = search needs
-
-loop-less : tie.Need-loop-less Inv-loop μ-loop
-loop-less c = search needs
-
-loop-again : tie.Need-loop-again Inv-loop μ-loop
-loop-again c = (search needs, none-more _ _ (c .before .before .before .loop .inv .1) (sym (c .before .stray .ensures) ∙ c .if1 .left))
-
-returns-2 : tie.Need-returns-2 Inv-loop μ-loop
-returns-2 c = sym (any-none 96 _ (c .before .loop .k) (omega arith) (c .before .loop .inv .1))
+returns : tie.Need-returns
+returns c = c .any-copied-stray .ensures ∙ any-ext 96 _ _ (λ k l. ap₂ (λ (s x : ℕ). s ≤? k and isnt (x == 0)) (c .before .before .before .span .ensures) (copied-cell (c .before .before .before .before .before .args .part .now) _ k (c .before .before .cell-bytes .ensures)))
 
 pub any-stray-spec : {M : Type 1} → statement M
-any-stray-spec =
-    tie.close
-    (tie.spec
-    Inv-loop
-    μ-loop
-    loop-holds
-    stray-requires
-    returns
-    add-k
-    loop-less
-    loop-again
-    returns-2)
+any-stray-spec = tie.close (tie.spec span-requires cast-end cell-bytes-requires any-copied-stray-requires returns)

@@ -4,22 +4,16 @@ use borrow.Author.Needs.{needs}
 use Rattle.records.proofs.rules.stray.Statement.{statement}
 use Rattle.records.proofs.rules.stray.Tie as tie
 
-span-requires : tie.Need-span-requires
-span-requires c κs = search needs
-
-cast-if1 : tie.Need-cast-if1
-cast-if1 c = search needs
-
-cell-requires : tie.Need-cell-requires
-cell-requires c κs = search needs
+copied-cell-requires : tie.Need-copied-cell-requires
+copied-cell-requires c κs = search needs
 
 returns : tie.Need-returns
 unfolding _and_ isnt _==_
-returns c = rw (← c .before .before .span .ensures, ≤?-true _ _ (c .before .if1 .taken), ← c .cell .ensures)
+returns c = rw (≤?-true _ _ (c .before .if1 .taken), ← c .copied-cell .ensures)
 
 returns-2 : tie.Need-returns-2
 unfolding _and_ isnt _==_
-returns-2 c = rw (← c .before .span .ensures, ≤?-false _ _ (c .if1 .left))
+returns-2 c = rw (≤?-false _ _ (c .if1 .left))
 
 pub stray-spec : {M : Type 1} → statement M
-stray-spec = tie.close (tie.spec span-requires cast-if1 cell-requires returns returns-2)
+stray-spec = tie.close (tie.spec copied-cell-requires returns returns-2)
