@@ -1,6 +1,7 @@
 // Runs one service many times on one table, through the plain implementation; the program crates/bench does the same through the library.
-// Standard input: the service's letter (U unpack, K check, S, F), how many times (3 bytes, little-endian), the column count, the table.
+// Standard input: the service's letter (U unpack, K check, S, F, C), how many times (3 bytes, little-endian), the column count, the table.
 // Standard output: the last outcome and a checksum of every outcome and of the bytes that were written. Standard error: the microseconds that it took.
+#include "corrections.h"
 #include "fragments.h"
 #include "snps.h"
 #include <stdio.h>
@@ -9,7 +10,7 @@
 enum { HEAD = 5, WORK = 32768 };
 
 typedef struct {
-    uint8_t cells[MATRIX], answer[5 * MOST];
+    uint8_t cells[MATRIX], answer[5 * MOST], corrected[MOST * RECORD];
     uint32_t tags[MOST];
     uint16_t work[WORK];
 } buffers;
@@ -29,7 +30,7 @@ static uint32_t over_buffers(uint32_t sum, const buffers *b, size_t m, size_t n)
     sum = over_bytes(sum, b->answer, 3 * n + 2 * m);
     for (size_t i = 0; i < m; i++) sum = mixed(sum, b->tags[i]);
     for (size_t i = 0; i < WORK; i++) sum = mixed(sum, b->work[i]);
-    return sum;
+    return over_bytes(sum, b->corrected, m * RECORD);
 }
 
 static outcome serve(uint8_t service, size_t n, const uint8_t *table, size_t length, buffers *b) {
@@ -38,7 +39,7 @@ static outcome serve(uint8_t service, size_t n, const uint8_t *table, size_t len
     case 'K': return check(n, table, length, b->answer);
     case 'S': return least_snp_removal(n, table, length, b->work, WORK, b->answer);
     case 'F': return least_fragment_removal(n, table, length, b->work, WORK, b->answer);
-    default: return accepted(0);
+    default: return least_corrections(n, table, length, b->work, WORK, b->answer, b->corrected);
     }
 }
 

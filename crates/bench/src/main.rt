@@ -1,10 +1,11 @@
 // Runs one service many times on one table, for the comparison of bench/run.
-// Standard input: the service's letter (U unpack, K check, S, F), how many times (3 bytes, little-endian), the column count, the table.
+// Standard input: the service's letter (U unpack, K check, S, F, C), how many times (3 bytes, little-endian), the column count, the table.
 // Standard output: the last outcome and a checksum of every outcome and of the bytes that were written. Standard error: the microseconds that it took.
 ghost use mathlib.Core.Path.{_≡_};
 ghost use Prim.Native.Nat.{_*_, _≤_};
 ghost use lib.ListN.{length};
 use haplotypes::check;
+use haplotypes::least_corrections;
 use haplotypes::least_fragment_removal;
 use haplotypes::least_snp_removal;
 use haplotypes::unpack;
@@ -74,12 +75,14 @@ fn serve(
     tags: &mut [u32],
     work: &mut [u16],
     answer: &mut [u8],
+    corrected: &mut [u8],
 ) -> Outcome {
     match service {
         b'U' => unpack(n, table, cells, tags),
         b'K' => check(n, table, answer),
         b'S' => least_snp_removal(n, table, work, answer),
         b'F' => least_fragment_removal(n, table, work, answer),
+        b'C' => least_corrections(n, table, work, answer, corrected),
         _ => Outcome::Accepted(0),
     }
 }
@@ -100,12 +103,13 @@ fn repeated(
     tags: &mut [u32],
     work: &mut [u16],
     answer: &mut [u8],
+    corrected: &mut [u8],
 ) -> Tried {
     let mut last = 0;
     let mut sum = 0;
     let mut k = 0;
     while k < times {
-        last = code(serve(service, n, table, cells, tags, work, answer));
+        last = code(serve(service, n, table, cells, tags, work, answer, corrected));
         sum = mixed(sum, last);
         k += 1;
     }
@@ -147,13 +151,25 @@ fn timed(
     tags: &mut [u32],
     work: &mut [u16],
     answer: &mut [u8],
+    corrected: &mut [u8],
 ) {
     let before = reading(libc::clock());
-    let tried = repeated(service, times, n, table, cells, tags, work, answer);
+    let tried = repeated(
+        service,
+        times,
+        n,
+        table,
+        cells,
+        tags,
+        work,
+        answer,
+        corrected,
+    );
     print_time(before, reading(libc::clock()));
     let over_cells = over_bytes(tried.sum, cells);
     let over_answer = over_bytes(over_cells, answer);
-    let sum = over_work(over_tags(over_answer, tags), work);
+    let over_lent = over_work(over_tags(over_answer, tags), work);
+    let sum = over_bytes(over_lent, corrected);
     print_result(tried.last, sum);
 }
 
@@ -181,6 +197,12 @@ fn blank_answer() -> [u8; 640]
     [0u8; 640]
 }
 
+fn blank_table() -> [u8; 4096]
+    ensures { λ r. ⌜ 4096 ≡ length r ⌝ }
+{
+    [0u8; 4096]
+}
+
 // Lends buffers of exact length for a table of m fragments and n columns.
 fn run(service: u8, times: usize, n: usize, m: usize, table: &[u8])
     requires { ⌜ (m ≤ 128) × (n ≤ 128) ⌝ }
@@ -189,8 +211,10 @@ fn run(service: u8, times: usize, n: usize, m: usize, table: &[u8])
     let mut tags = blank_tags();
     let mut work = blank_work();
     let mut answer = blank_answer();
+    let mut corrected = blank_table();
     let size = m * n;
     let bytes = 3 * n + 2 * m;
+    let records = 32 * m;
     timed(
         service,
         times,
@@ -200,6 +224,7 @@ fn run(service: u8, times: usize, n: usize, m: usize, table: &[u8])
         &mut tags[0..m],
         &mut work,
         &mut answer[0..bytes],
+        &mut corrected[0..records],
     );
 }
 

@@ -6,10 +6,10 @@ use Rattle.bench.proofs.repeated.Statement.{statement}
 use Rattle.bench.proofs.repeated.Tie as tie
 
 abbrev Inv-loop : tie.InvT-loop
-Inv-loop service times n table cells₀ tags₀ work₀ answer₀ last₀ sum₀ k₀ cells tags work answer last sum k = (length cells ≡ length cells₀) × (length tags ≡ length tags₀) × (length work ≡ length work₀) × (length answer ≡ length answer₀)
+Inv-loop service times n table cells₀ tags₀ work₀ answer₀ corrected₀ last₀ sum₀ k₀ cells tags work answer corrected last sum k = (length cells ≡ length cells₀) × (length tags ≡ length tags₀) × (length work ≡ length work₀) × (length answer ≡ length answer₀) × (length corrected ≡ length corrected₀)
 
 abbrev μ-loop : tie.MeasureT-loop
-μ-loop service times n table cells₀ tags₀ work₀ answer₀ last₀ sum₀ k₀ cells tags work answer last sum k = times - k
+μ-loop service times n table cells₀ tags₀ work₀ answer₀ corrected₀ last₀ sum₀ k₀ cells tags work answer corrected last sum k = times - k
 
 loop-holds : tie.Need-loop-holds Inv-loop μ-loop
 loop-holds c = search needs
@@ -44,6 +44,9 @@ same-length-3 c = search needs
 same-length-4 : tie.Need-same-length-4 Inv-loop μ-loop
 same-length-4 c = search needs
 
+same-length-5 : tie.Need-same-length-5 Inv-loop μ-loop
+same-length-5 c = search needs
+
 returns : tie.Need-returns Inv-loop μ-loop
 returns c = search needs
 
@@ -64,4 +67,5 @@ repeated-spec =
     same-length-2
     same-length-3
     same-length-4
+    same-length-5
     returns)

@@ -17,8 +17,11 @@ blank-work-requires c κs = search needs
 blank-answer-requires : tie.Need-blank-answer-requires
 blank-answer-requires c κs = search needs
 
+blank-table-requires : tie.Need-blank-table-requires
+blank-table-requires c κs = search needs
+
 mul-size : tie.Need-mul-size
-mul-size c = record { fits = product-fits (c .before .before .before .before .before .pre .1) (c .before .before .before .before .before .pre .0) }
+mul-size c = record { fits = product-fits (c .before .before .before .before .before .before .pre .1) (c .before .before .before .before .before .before .pre .0) }
 
 mul-bytes : tie.Need-mul-bytes
 mul-bytes c = search needs
@@ -29,6 +32,9 @@ mul-bytes-2 c = search needs
 add-bytes : tie.Need-add-bytes
 add-bytes c = search needs
 
+mul-records : tie.Need-mul-records
+mul-records c = search needs
+
 sub-timed : tie.Need-sub-timed
 sub-timed c = search needs
 
@@ -36,7 +42,7 @@ part-cells-start : tie.Need-part-cells-start
 part-cells-start c = search needs
 
 part-cells-end : tie.Need-part-cells-end
-part-cells-end c = let h = mul-le-mul (c .before .before .before .before .before .pre .0) (c .before .before .before .before .before .pre .1) in omega (arith, h)
+part-cells-end c = let h = mul-le-mul (c .before .before .before .before .before .before .pre .0) (c .before .before .before .before .before .before .pre .1) in omega (arith, h)
 
 sub-timed-2 : tie.Need-sub-timed-2
 sub-timed-2 c = search needs
@@ -59,6 +65,15 @@ part-answer-start c = search needs
 part-answer-end : tie.Need-part-answer-end
 part-answer-end c = search needs
 
+sub-timed-4 : tie.Need-sub-timed-4
+sub-timed-4 c = search needs
+
+part-corrected-start : tie.Need-part-corrected-start
+part-corrected-start c = search needs
+
+part-corrected-end : tie.Need-part-corrected-end
+part-corrected-end c = search needs
+
 timed-requires : tie.Need-timed-requires
 timed-requires c κs = search needs
 
@@ -73,10 +88,12 @@ run-spec =
     blank-tags-requires
     blank-work-requires
     blank-answer-requires
+    blank-table-requires
     mul-size
     mul-bytes
     mul-bytes-2
     add-bytes
+    mul-records
     sub-timed
     part-cells-start
     part-cells-end
@@ -87,5 +104,8 @@ run-spec =
     sub-timed-3
     part-answer-start
     part-answer-end
+    sub-timed-4
+    part-corrected-start
+    part-corrected-end
     timed-requires
     returns)

@@ -1,0 +1,143 @@
+// The least corrections: the elimination over columns with at most 8 fragments on each.
+#ifndef CORRECTIONS_H
+#define CORRECTIONS_H
+#include "phasing.h"
+#include "ranks.h"
+
+enum { SLOTS = 8, MASKS = 1 << SLOTS };
+
+// Where the fragments start and end, and the slot of each, which no other fragment has that covers one of its columns.
+typedef struct {
+    size_t starts[MOST], ends[MOST], slots[MOST];
+} spans;
+
+// The lowest column with more than 8 calls, and n where there is none.
+static size_t first_deep(size_t m, size_t n, const uint8_t *cells) {
+    for (size_t c = 0; c < n; c++) {
+        size_t calls = 0;
+        for (size_t i = 0; i < m; i++) calls += is_call(cells[i * MOST + c]);
+        if (calls > SLOTS) return c;
+    }
+    return n;
+}
+
+static void fill_spans(size_t m, size_t n, const uint8_t *cells, spans *s) {
+    for (size_t i = 0; i < m; i++) {
+        const uint8_t *row = cells + i * MOST;
+        size_t start = 0, end = n;
+        while (start < n && !is_call(row[start])) start++;
+        while (end > 0 && !is_call(row[end - 1])) end--;
+        s->starts[i] = start;
+        s->ends[i] = end;
+    }
+}
+
+// Whether a fragment that entered before f has slot b at column c.
+static bool slot_used(size_t m, const spans *s, size_t c, size_t f, size_t b) {
+    for (size_t x = 0; x < m; x++) {
+        bool sooner = s->starts[x] < c || (s->starts[x] == c && x < f);
+        if (sooner && c < s->ends[x] && s->slots[x] == b) return true;
+    }
+    return false;
+}
+
+static void fill_slots(size_t m, size_t n, spans *s) {
+    for (size_t c = 0; c < n; c++)
+        for (size_t f = 0; f < m; f++) {
+            if (s->starts[f] != c) continue;
+            size_t b = 0;
+            while (b < SLOTS && slot_used(m, s, c, f, b)) b++;
+            s->slots[f] = b;
+        }
+}
+
+// The letters of column c, slot by slot.
+static void gather(size_t m, const uint8_t *cells, const spans *s, size_t c, uint8_t *letters) {
+    memset(letters, HOLE, SLOTS);
+    for (size_t i = 0; i < m; i++)
+        if (s->starts[i] <= c && c < s->ends[i]) letters[s->slots[i]] = cells[i * MOST + c];
+}
+
+static inline uint32_t lesser(uint32_t a, uint32_t b) { return a < b ? a : b; }
+
+// What a side pattern costs at the letters of a column.
+static uint32_t mask_cost(const uint8_t *letters, size_t mask) {
+    uint32_t calls[2][3] = {{0}};
+    for (size_t b = 0; b < SLOTS; b++) calls[mask >> b & 1][letters[b]]++;
+    return lesser(calls[0][A], calls[0][B]) + lesser(calls[1][A], calls[1][B]);
+}
+
+// Fragment f enters at slot b: side 1, or side 2 where that costs less.
+static void enter(ranks t, size_t f, size_t b) {
+    rank out = rank_single(0, f);
+    size_t bit = (size_t)1 << b;
+    for (size_t mask = 0; mask < MASKS; mask++) {
+        if (mask & bit) rank_put(t, mask, rank_get(t, mask - bit));
+        else rank_put(t, mask, rank_lesser(rank_get(t, mask), rank_plus(out, rank_get(t, mask + bit))));
+    }
+}
+
+// The first side list of least cost.
+static void least_cost_sides(size_t m, size_t n, const uint8_t *cells, uint8_t *sides) {
+    spans s;
+    uint16_t counts[MASKS] = {0};
+    uint64_t highs[MASKS] = {0}, lows[MASKS] = {0};
+    uint8_t letters[SLOTS];
+    ranks t = {counts, highs, lows};
+    fill_spans(m, n, cells, &s);
+    fill_slots(m, n, &s);
+    for (size_t c = n; c-- > 0;) {
+        gather(m, cells, &s, c, letters);
+        for (size_t mask = 0; mask < MASKS; mask++) counts[mask] += mask_cost(letters, mask);
+        for (size_t f = m; f-- > 0;)
+            if (s.starts[f] == c) enter(t, f, s.slots[f]);
+    }
+    rank r = rank_get(t, 0);
+    for (size_t p = 0; p < m; p++) sides[p] = 1 + rank_digit(r, p);
+}
+
+// Turns the rarer letter of a column and side; on equal counts the Bs become A. How many calls it turns.
+static size_t correct(size_t m, uint8_t *cells, const uint8_t *sides, uint8_t side, size_t c) {
+    size_t calls[3] = {0}, changed = 0;
+    for (size_t i = 0; i < m; i++)
+        if (sides[i] == side) calls[cells[i * MOST + c]]++;
+    uint8_t letter = calls[A] < calls[B] ? B : A;
+    for (size_t i = 0; i < m; i++) {
+        uint8_t *cell = &cells[i * MOST + c];
+        if (sides[i] != side || *cell == HOLE || *cell == letter) continue;
+        *cell = letter;
+        changed++;
+    }
+    return changed;
+}
+
+// The records with the codes of the matrix in the cells of their spans.
+static void rewrite(const uint8_t *table, size_t m, const uint8_t *cells, uint8_t *corrected) {
+    memcpy(corrected, table, m * RECORD);
+    for (size_t i = 0; i < m; i++) {
+        uint8_t *record = corrected + RECORD * i;
+        const uint8_t *row = cells + i * MOST + start_of(record);
+        for (size_t k = 0; k < span_of(record); k++) {
+            unsigned shift = 2 * (k % 4);
+            record[8 + k / 4] = (record[8 + k / 4] & ~(3u << shift)) | row[k] << shift;
+        }
+    }
+}
+
+static outcome least_corrections(size_t n, const uint8_t *table, size_t length, uint16_t *work, size_t work_length, uint8_t *answer, uint8_t *corrected) {
+    outcome rest = table_fault(n, table, length);
+    if (rest.number != 0) return rest;
+    size_t m = rest.value, count = 0;
+    uint8_t cells[MATRIX], cols[MOST], sides[MOST] = {0};
+    memset(cols, 1, MOST);
+    fill_cells(table, m, MOST, cells);
+    size_t deep = first_deep(m, n, cells);
+    if (deep < n) return refused(12, deep);
+    least_cost_sides(m, n, cells, sides);
+    for (size_t c = 0; c < n; c++) count += correct(m, cells, sides, 1, c) + correct(m, cells, sides, 2, c);
+    fill_answer(m, n, cells, cols, sides, answer);
+    rewrite(table, m, cells, corrected);
+    memset(work, 0, work_length * sizeof *work);
+    return accepted(count);
+}
+#endif
