@@ -2,7 +2,7 @@
 -- Assumes nothing.
 use mathlib.Core.Path.{_≡_, refl, _∙_, ap₂, sym, ap}
 use mathlib.Core.List.{List, [], _∷_}
-use Prim.Native.Nat.{ℕ, _+_, _*_, _-_, _/_, _%_, _^_, _≤_, _<_}
+use Prim.Native.Nat.{ℕ, zero, suc, _+_, _*_, _-_, _/_, _%_, _^_, _≤_, _<_}
 use native.Mathlib.Omega.{arith}
 use native.Mathlib.Decide.{decLe}
 use lib.ListN.{getD, take, drop}
@@ -30,10 +30,22 @@ pub start-bytes : (r : List ℕ) → startOf r ≡ getD r 4 0 + 256 * getD r 5 0
 unfolding startOf
 start-bytes r = two-bytes (drop 4 r) ∙ ap₂ (λ (x y : ℕ). x + 256 * y) (getD-drop 4 r 0 0) (getD-drop 4 r 1 0)
 
+-- two bits for each cell
+four-pow : (q : ℕ) → q < 4 → 2 ^ (2 * q) ≡ 4 ^ q
+four-pow zero h = refl
+four-pow (suc zero) h = refl
+four-pow (suc (suc zero)) h = refl
+four-pow (suc (suc (suc zero))) h = refl
+four-pow (suc (suc (suc (suc q)))) h = absurd (omega arith)
+
 -- cell i of a copy of bytes 8 to 31
-pub copied-in : (copy : List ℕ) (i q : ℕ) → i < 96 → i % 4 ≡ q → getD copy (i / 4) 0 / 4 ^ q % 4 ≡ copiedCell copy i
+pub copied-in : (copy : List ℕ) (i : ℕ) → i < 96 → getD copy (i / 4) 0 / 4 ^ (i % 4) % 4 ≡ copiedCell copy i
 unfolding copiedCell
-copied-in copy i q h f = ap (λ (k : ℕ). getD copy (i / 4) 0 / 4 ^ k % 4) (sym f) ∙ sym (if-true (i <? 96) _ _ (lt-<? i 96 h))
+copied-in copy i h = sym (if-true (i <? 96) _ _ (lt-<? i 96 h))
+
+-- … by a shift
+pub copied-shifted : (copy : List ℕ) (i : ℕ) → i < 96 → getD copy (i / 4) 0 / 2 ^ (2 * (i % 4)) % 4 ≡ copiedCell copy i
+copied-shifted copy i h = ap (λ (k : ℕ). getD copy (i / 4) 0 / k % 4) (four-pow (i % 4) (omega arith)) ∙ copied-in copy i h
 
 pub copied-past : (copy : List ℕ) (i : ℕ) → 96 ≤ i → copiedCell copy i ≡ 0
 unfolding copiedCell
@@ -47,7 +59,7 @@ copied-cell r copy i e =
       | yes past ↦ copied-past copy i past ∙ sym (cell-past r i past)
       | no before ↦
           let h : i < 96 = omega arith in
-          sym (copied-in copy i (i % 4) h refl)
+          sym (copied-in copy i h)
           ∙ ap (λ (l : List ℕ). getD l (i / 4) 0 / 4 ^ (i % 4) % 4) e
           ∙ ap (λ (b : ℕ). b / 4 ^ (i % 4) % 4) (getD-tab 24 (λ k. getD r (8 + k) 0) (i / 4) 0 (omega arith))
           ∙ sym (cell-in r i h)

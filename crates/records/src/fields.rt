@@ -64,13 +64,8 @@ pub(crate) fn copied_cell(copy: &[u8; 24], i: usize) -> u8
     if 96 <= i {
         return 0;
     }
-    let b = copy[i / 4];
-    match i % 4 {
-        0 => b % 4,
-        1 => b / 4 % 4,
-        2 => b / 16 % 4,
-        _ => b / 64 % 4,
-    }
+    let low = 2 * (i % 4);
+    (copy[i / 4] >> low) % 4
 }
 
 // The code of cell i, read from a copy of bytes 8 to 31; 0 from cell 96 on.
