@@ -10,7 +10,7 @@ enum { HOLE = 0, A = 1, B = 2 };
 
 // Letters from two opposite haplotypes, at random, or all A.
 enum letters { HAPLOTYPES, RANDOM, UNIFORM };
-// Fragments at random starts, at random starts with at most 8 on a column, one behind the other with 8 on each column, or fragment i at column i.
+// Fragments at random starts, at random starts with at most 8 on a column, in rows with 8 on each column, or fragment i at column i.
 enum places { ANYWHERE, SHALLOW, TILED, DIAGONAL };
 
 typedef struct {
@@ -53,6 +53,7 @@ static kind drawn(void) {
     k.most_span = a < b ? b : a;
     k.errors_per_mille = below(2) ? 0 : below(100);
     k.letters = below(3);
+    k.places = below(3);
     return k;
 }
 
