@@ -2,15 +2,17 @@
 -- Assumes nothing.
 use mathlib.Core.Path.{_≡_, refl, _∙_, ap₂, sym, ap}
 use mathlib.Core.List.{List, [], _∷_}
-use Prim.Native.Nat.{ℕ, zero, suc, _+_, _*_, _-_, _/_, _%_, _^_, _≤_, _<_}
+use Prim.Native.Nat.{ℕ, zero, suc, _+_, _*_, _-_, _/_, _%_, _^_, _≤_, _<_, min}
+use native.Mathlib.Nat.{min-le-left, min-le-right, le-min}
 use native.Mathlib.Omega.{arith}
 use native.Mathlib.Decide.{decLe}
-use lib.ListN.{getD, take, drop}
+use lib.ListN.{length, getD, take, drop}
 use lib.Seq.{getD-drop}
-use Rattle.records.specs.Below.{tab, _<?_, _≤?_, _and_}
+use Rattle.records.specs.Below.{if_then_else_, tab, _<?_, _≤?_, _and_}
 use Rattle.records.specs.Record.{littleEndian, tagOf, startOf, spanOf, cellOf, cellBytesOf, copiedCell, copiedCode, codeAt}
+use Rattle.records.proofs.RowLaws.{tab-ext}
 use Rattle.records.proofs.ByteLaws.{cell-in, cell-past}
-use Rattle.records.proofs.BelowLaws.{getD-tab, if-true, if-false, le-isnt, both, left-of, right-of, isnt-T, lt-<?, <?-lt, le-≤?, ≤?-le}
+use Rattle.records.proofs.BelowLaws.{length-tab, getD-tab, if-ind, if-true, if-false, le-isnt, both, left-of, right-of, isnt-T, T-isnt, lt-<?, <?-lt, le-≤?, ≤?-le}
 
 two-bytes : (l : List ℕ) → littleEndian (take 2 l) ≡ getD l 0 0 + 256 * getD l 1 0
 unfolding littleEndian
@@ -96,3 +98,46 @@ copied-code-out s k copy c f =
 pub copied-code : (r : List ℕ) {s k : ℕ} {copy : List ℕ} (c : ℕ) → s ≡ startOf r → k ≡ spanOf r → copy ≡ cellBytesOf r → copiedCode s k copy c ≡ codeAt r c
 unfolding copiedCode codeAt
 copied-code r c es ek e = rw (es, ek, copied-cell r _ (c - startOf r) e)
+
+-- a cleared row of w columns, with the cells written from the start to the least of the span's end, n and w
+row-code : (r : List ℕ) (n w : ℕ) {s k end : ℕ} {copy row : List ℕ}
+    → s ≡ startOf r → k ≡ spanOf r → copy ≡ cellBytesOf r → row ≡ tab w (λ c. 0) → end ≡ min (s + k) (min n w)
+    → (c : ℕ) → c < w → (if s ≤? c and c <? end then copiedCell copy (c - s) else getD row c 0) ≡ (if c <? n then codeAt r c else 0)
+row-code r n w {s} {k} {end} {copy} {row} es ek e cleared ends c inside =
+    let zero-there : getD row c 0 ≡ 0 = ap (λ (l : List ℕ). getD l c 0) cleared ∙ getD-tab w (λ c. 0) c 0 inside in
+    let far = min-le-left (s + k) (min n w) in
+    let near = min-le-right (s + k) (min n w) in
+    let seen = min-le-left n w in
+    elim (decLe n c) [
+      | yes past ↦
+          if-false (s ≤? c and c <? end) _ _ (isnt-T _ (λ t. let b = <?-lt _ _ (right-of _ _ t) in absurd (omega arith)))
+          ∙ zero-there
+          ∙ sym (if-false (c <? n) _ _ (le-isnt c n past))
+      | no before ↦
+          let shown : c < n = omega arith in
+          if-ind (λ (x : ℕ). x ≡ codeAt r c) (s ≤? c and c <? end)
+          (λ t.
+          let a = ≤?-le _ _ (left-of _ _ t) in
+          let b = <?-lt _ _ (right-of _ _ t) in
+          copied-cell r copy (c - s) e ∙ ap (λ (x : ℕ). cellOf r (c - x)) es ∙ sym (codeAt-in r c (omega arith) (omega arith)))
+          (λ t.
+          zero-there ∙ sym (codeAt-out r c (λ a. elim (decLe (startOf r + spanOf r) c) [
+            | yes out ↦ out
+            | no within ↦
+                let reach : c + 1 ≤ min (s + k) (min n w) = le-min (omega arith) (le-min (omega arith) (omega arith)) in
+                absurd (T-isnt _ t (both _ _ (le-≤? s c (omega arith)) (lt-<? c end (omega arith))))
+          ])))
+          ∙ sym (if-true (c <? n) _ _ (lt-<? c n shown))
+    ]
+
+-- … column by column: the row's codes
+pub row-filled : (r : List ℕ) (n : ℕ) (row : List ℕ) {s k shown end : ℕ} {copy cleared filled : List ℕ}
+    → s ≡ startOf r → k ≡ spanOf r → copy ≡ cellBytesOf r → cleared ≡ tab (length row) (λ c. 0) → shown ≡ min n (length cleared) → end ≡ min (s + k) shown
+    → filled ≡ tab (length cleared) (λ c. if s ≤? c and c <? end then copiedCell copy (c - s) else getD cleared c 0)
+    → filled ≡ tab (length row) (λ c. if c <? n then codeAt r c else 0)
+row-filled r n row {s} {k} {shown} {end} {copy} {cleared} es ek e clear shows ends written =
+    let same : length cleared ≡ length row = ap length clear ∙ length-tab (length row) _ in
+    let bound : end ≡ min (s + k) (min n (length row)) = ends ∙ ap (λ (x : ℕ). min (s + k) x) (shows ∙ ap (λ (x : ℕ). min n x) same) in
+    written
+    ∙ ap (λ (w : ℕ). tab w (λ c. if s ≤? c and c <? end then copiedCell copy (c - s) else getD cleared c 0)) same
+    ∙ tab-ext (length row) _ _ (row-code r n (length row) es ek e clear bound)

@@ -1,6 +1,6 @@
--- A list that a loop fills from the front: below the counter it holds what f says.
+-- A list that a loop fills from the front: below the counter it holds what f says. A list that a loop writes from one place to another.
 -- Assumes nothing.
-use mathlib.Core.Path.{_≡_, sym, ap, _∙_}
+use mathlib.Core.Path.{_≡_, refl, sym, ap, _∙_}
 use mathlib.Core.List.{List}
 use Prim.Native.Nat.{ℕ, _+_, _-_, _<_, _≤_}
 use native.Mathlib.Omega.{arith}
@@ -9,8 +9,8 @@ use lib.ListN.{length, getD, set, take, replicate, List·getD-append, length-set
 use lib.Seq.{length-take-le, getD-take, getD-append-add, getD-set-same, getD-set-other, ext-getD}
 use borrow.Author.Count.{below-more}
 use borrow.Rule.Slice.PartMut.{putMid}
-use Rattle.records.specs.Below.{tab}
-use Rattle.records.proofs.BelowLaws.{length-tab, getD-tab}
+use Rattle.records.specs.Below.{if_then_else_, _<?_, _≤?_, _and_, tab}
+use Rattle.records.proofs.BelowLaws.{length-tab, getD-tab, if-ind, left-of, right-of, not-both, <?-lt, isnt-<?, ≤?-le, le-≤?}
 
 pub record Filled (n : ℕ) (f : ℕ → ℕ) (k : ℕ) (l : List ℕ) : Type 0 where
   pub within : k ≤ n
@@ -65,6 +65,45 @@ module _ (n : ℕ) (f : ℕ → ℕ) where
   filled-all k l filled h =
       ext-getD 0 l (tab n f) (filled .sized ∙ sym (length-tab n f))
       (λ j g. let s = filled .sized in let b : j < n = omega arith in filled .done j (omega arith) ∙ sym (getD-tab n f j 0 b))
+
+-- from a to the counter the list holds what f says, and elsewhere its old entries; the counter stops at b
+pub record Written (a b : ℕ) (f : ℕ → ℕ) (old : List ℕ) (k : ℕ) (l : List ℕ) : Type 0 where
+  pub as-long : length l ≡ length old
+  pub begun : a ≤ k
+  pub in-time : (j : ℕ) → a ≤ j → b ≤ j → k ≤ j
+  pub new : (j : ℕ) → j < k → a ≤ j → getD l j 0 ≡ f j
+  pub kept : (j : ℕ) → (a ≤ j → k ≤ j) → getD l j 0 ≡ getD old j 0
+
+module _ (a b : ℕ) (f : ℕ → ℕ) (old : List ℕ) where
+  pub written-none : Written a b f old a old
+  written-none = record { as-long = refl; begun = omega arith; in-time = λ j h g. h; new = λ j h g. absurd (omega arith); kept = λ j h. refl }
+
+  pub written-more : (k : ℕ) (l : List ℕ) (v : ℕ) → Written a b f old k l → k < b → b ≤ length old → v ≡ f k → Written a b f old (k + 1) (set l k v)
+  written-more k l v written h inside e =
+      let s = written .as-long in
+      let low = written .begun in
+      record {
+        as-long = simp length-set s;
+        begun = omega arith;
+        in-time = λ j g u. omega arith;
+        new =
+            below-more (λ (j : ℕ). a ≤ j → getD (set l k v) j 0 ≡ f j) k (λ j g u. getD-set-other l k j v 0 (λ q. omega arith) ∙ written .new j g u)
+            (λ u. getD-set-same l k v 0 (omega arith) ∙ e);
+        kept = λ j g.
+            getD-set-other l k j v 0 (λ q. let u : a ≤ j = omega arith in let r = g u in omega arith)
+            ∙ written .kept j (λ u. let r = g u in omega arith);
+      }
+
+  pub written-all : (k : ℕ) (l : List ℕ) → Written a b f old k l → b ≤ k → l ≡ tab (length old) (λ j. if a ≤? j and j <? b then f j else getD old j 0)
+  written-all k l written h =
+      ext-getD 0 l _ (written .as-long ∙ sym (length-tab (length old) _))
+      (λ j g.
+      let s = written .as-long in
+      let inside : j < length old = omega arith in
+      if-ind (λ (x : ℕ). getD l j 0 ≡ x) (a ≤? j and j <? b)
+      (λ t. let r = <?-lt j b (right-of _ _ t) in written .new j (omega arith) (≤?-le a j (left-of _ _ t)))
+      (λ t. written .kept j (λ u. written .in-time j u (isnt-<? j b (not-both _ _ t (le-≤? a j u)))))
+      ∙ sym (getD-tab (length old) (λ j. if a ≤? j and j <? b then f j else getD old j 0) j 0 inside))
 
 -- a table of one number
 pub tab-const : (n a : ℕ) → tab n (λ i. a) ≡ replicate n a

@@ -77,7 +77,7 @@ pub fn cell(part: &[u8], i: usize) -> u8
 }
 
 // The code at column c of a record with this start, span and copy of the cell bytes; a hole outside the span.
-pub(crate) fn copied_code(start: usize, span: usize, copy: &[u8; 24], c: usize) -> u8
+fn copied_code(start: usize, span: usize, copy: &[u8; 24], c: usize) -> u8
     ensures { λ r. ⌜ r ≡ copiedCode start span (now (copy .entry)) c ⌝ }
 {
     if c < start {

@@ -1,30 +1,39 @@
 // A record's codes, column by column.
 ghost use mathlib.Core.Path.{_≡_};
-ghost use lib.ListN.{length};
-ghost use Rattle.records.specs.Below.{if_then_else_, _<?_, tab};
-ghost use Rattle.records.specs.Record.{copiedCode, codeAt};
+ghost use Prim.Native.Nat.{_-_, _≤_, min};
+ghost use lib.ListN.{length, getD};
+ghost use Rattle.records.specs.Below.{if_then_else_, _<?_, _≤?_, _and_, tab};
+ghost use Rattle.records.specs.Record.{copiedCell, codeAt};
 use crate::fields::cell_bytes;
-use crate::fields::copied_code;
+use crate::fields::copied_cell;
 use crate::fields::span;
 use crate::fields::start;
 
-// The code at column c below n, by start, span and a copy of the cell bytes; 0 from column n on.
-fn code_below(n: usize, start: usize, span: usize, copy: &[u8; 24], c: usize) -> u8
-    ensures { λ r. ⌜ r ≡ if c <? n then copiedCode start span (now (copy .entry)) c else 0 ⌝ }
+fn smaller(a: usize, b: usize) -> usize
+    ensures { λ r. ⌜ r ≡ min a b ⌝ }
 {
-    if n <= c {
-        return 0;
-    }
-    copied_code(start, span, copy, c)
+    if a < b { a } else { b }
 }
 
-// Writes these codes to a row.
-fn fill_copied(n: usize, start: usize, span: usize, copy: &[u8; 24], row: &mut [u8])
-    ensures { λ _. ⌜ now (row .exit) ≡ tab (length (now (row .entry))) (λ c. if c <? n then copiedCode start span (now (copy .entry)) c else 0) ⌝ }
+// Writes 0 to every column of a row.
+fn clear_row(row: &mut [u8])
+    ensures { λ _. ⌜ now (row .exit) ≡ tab (length (now (row .entry))) (λ c. 0) ⌝ }
 {
     let mut c = 0;
     while c < row.len() {
-        row[c] = code_below(n, start, span, copy, c);
+        row[c] = 0;
+        c += 1;
+    }
+}
+
+// Writes the cells from cell 0 on to the columns from start to end, by a copy of the cell bytes; the other columns keep what they hold.
+fn write_cells(start: usize, end: usize, copy: &[u8; 24], row: &mut [u8])
+    requires { ⌜ end ≤ length (now row) ⌝ }
+    ensures { λ _. ⌜ now (row .exit) ≡ tab (length (now (row .entry))) (λ c. if start ≤? c and c <? end then copiedCell (now (copy .entry)) (c - start) else getD (now (row .entry)) c 0) ⌝ }
+{
+    let mut c = start;
+    while c < end {
+        row[c] = copied_cell(copy, c - start);
         c += 1;
     }
 }
@@ -36,5 +45,8 @@ pub fn fill_row(n: usize, part: &[u8], row: &mut [u8])
     let s = start(part) as usize;
     let k = span(part) as usize;
     let copy = cell_bytes(part);
-    fill_copied(n, s, k, &copy, row);
+    clear_row(row);
+    let shown = smaller(n, row.len());
+    let end = smaller(s + k, shown);
+    write_cells(s, end, &copy, row);
 }

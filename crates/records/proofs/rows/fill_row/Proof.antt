@@ -1,9 +1,5 @@
-use Prim.Native.Nat.{ℕ}
-use mathlib.Core.Path.{ap, _∙_}
-use Rattle.records.specs.Below.{if_then_else_, _<?_}
-use Rattle.records.proofs.RowLaws.{tab-ext}
-use Rattle.records.proofs.FieldLaws.{copied-code}
 use borrow.Author.Needs.{needs}
+use Rattle.records.proofs.FieldLaws.{row-filled}
 use Rattle.records.proofs.rows.fill_row.Statement.{statement}
 use Rattle.records.proofs.rows.fill_row.Tie as tie
 
@@ -22,21 +18,39 @@ cast-k c = search needs
 cell-bytes-requires : tie.Need-cell-bytes-requires
 cell-bytes-requires c κs = search needs
 
-fill-copied-requires : tie.Need-fill-copied-requires
-fill-copied-requires c κs = search needs
+clear-row-requires : tie.Need-clear-row-requires
+clear-row-requires c κs = search needs
+
+smaller-requires : tie.Need-smaller-requires
+smaller-requires c κs = search needs
+
+add-smaller : tie.Need-add-smaller
+add-smaller c = search needs
+
+smaller-requires-2 : tie.Need-smaller-requires-2
+smaller-requires-2 c κs = search needs
+
+write-cells-requires : tie.Need-write-cells-requires
+write-cells-requires c κs = search needs
 
 same-length : tie.Need-same-length
 same-length c = search needs
 
 returns : tie.Need-returns
 returns c =
-    let filled = c .before .before in
-    let copied = filled .before .before .before in
+    let written = c .before .before in
+    let ended = written .before .before .before in
+    let shown = ended .before in
+    let cleared = shown .before .before .before in
+    let copied = cleared .before .before in
     let spanned = copied .before in
     let started = spanned .before in
     let a = started .before .before .before .args in
-    filled .fill-copied .ensures ∙ tab-ext _ _ _
-    (λ i l. ap (λ (x : ℕ). if i <? a .n then x else 0) (copied-code (a .part .now) i (started .start .ensures) (spanned .span .ensures) (copied .cell-bytes .ensures)))
+    row-filled (a .part .now) (a .n) (a .row .now) (started .start .ensures) (spanned .span .ensures) (copied .cell-bytes .ensures)
+    (cleared .clear-row .ensures)
+    (shown .smaller .ensures)
+    (ended .smaller2 .ensures)
+    (written .write-cells .ensures)
 
 pub fill-row-spec : {M : Type 1} → statement M
 fill-row-spec =
@@ -47,6 +61,10 @@ fill-row-spec =
     span-requires
     cast-k
     cell-bytes-requires
-    fill-copied-requires
+    clear-row-requires
+    smaller-requires
+    add-smaller
+    smaller-requires-2
+    write-cells-requires
     same-length
     returns)
