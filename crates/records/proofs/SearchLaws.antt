@@ -6,7 +6,7 @@ use Prim.Native.Nat.{ℕ, _+_, _≤_, _<_}
 use native.Mathlib.Decide.{decLe}
 use native.Mathlib.Omega.{arith}
 use lib.Dec.{T}
-use Rattle.records.specs.Below.{anyBelow, firstBelow, _==_, _<?_, _≤?_}
+use Rattle.records.specs.Below.{anyBelow, firstBelow, _==_, _<?_, _≤?_, _and_}
 use Rattle.records.proofs.BelowLaws.{passes, fails, is-true, is-false, isnt-T, T-isnt, anyBelow-of, anyBelow-at, firstBelow-le, firstBelow-at, firstBelow-least, ==-eq, ==-refl, <?-lt, lt-<?, ≤?-le, le-≤?}
 
 -- ---- a test as an equation
@@ -49,6 +49,11 @@ pub record NoneBelow (i : ℕ) (p : ℕ → Bool) : Type 0 where
 
 pub none-yet : (p : ℕ → Bool) → NoneBelow 0 p
 none-yet p = record { none-passes = λ k h. absurd (omega arith) }
+
+-- nothing below a passes a test for a or more
+pub none-before : (a : ℕ) (p : ℕ → Bool) → NoneBelow a (λ k. a ≤? k and p k)
+unfolding _and_
+none-before a p = record { none-passes = λ k h. rw (≤?-false a k h) }
 
 pub none-more : (i : ℕ) (p : ℕ → Bool) → NoneBelow i p → p i ≡ false → NoneBelow (i + 1) p
 none-more i p none e =

@@ -16,23 +16,13 @@ use crate::fields::start;
 use crate::fields::tag;
 use crate::table::record_at;
 
-// Whether cell k lies after the span and is not 0, in a copy of the cell bytes.
-fn stray(copy: &[u8; 24], span: usize, k: usize) -> bool
-    ensures { λ r. ⌜ r ≡ (span ≤? k and isnt (copiedCell (now (copy .entry)) k == 0)) ⌝ }
-{
-    if span <= k {
-        return copied_cell(copy, k) != 0;
-    }
-    false
-}
-
 // Whether any cell lies after the span and is not 0, in a copy of the cell bytes.
 fn any_copied_stray(copy: &[u8; 24], span: usize) -> bool
     ensures { λ r. ⌜ r ≡ anyBelow 96 (λ k. span ≤? k and isnt (copiedCell (now (copy .entry)) k == 0)) ⌝ }
 {
-    let mut k = 0;
+    let mut k = span;
     while k < 96 {
-        if stray(copy, span, k) {
+        if copied_cell(copy, k) != 0 {
             return true;
         }
         k += 1;
