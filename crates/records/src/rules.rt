@@ -8,7 +8,6 @@ ghost use Rattle.records.specs.Outcome.{accepted, outcomeOf};
 ghost use Rattle.records.specs.Rules.{decide, outOfFrame, strayBits, openEnd, recordRules, tableRules, sizeRules, tableVerdict};
 use crate::Outcome;
 use crate::fields::byte7;
-use crate::fields::cell;
 use crate::fields::cell_bytes;
 use crate::fields::copied_cell;
 use crate::fields::span;
@@ -113,10 +112,11 @@ fn open_end(part: &[u8]) -> bool
     if k == 0 {
         return false;
     }
-    if cell(part, 0) == 0 {
+    let copy = cell_bytes(part);
+    if copied_cell(&copy, 0) == 0 {
         return true;
     }
-    cell(part, k - 1) == 0
+    copied_cell(&copy, k - 1) == 0
 }
 
 // Record i by 4 to 9. A hole of the span lies between two calls once 6 and 7 are kept.

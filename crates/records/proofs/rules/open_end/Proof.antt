@@ -1,6 +1,9 @@
+use Prim.Native.Nat.{_-_}
+use mathlib.Core.Path.{_∙_}
 use Rattle.records.specs.Below.{_and_, _or_, _==_}
 use Rattle.records.specs.Rules.{openEnd}
 use Rattle.records.proofs.SearchLaws.{<?-true, <?-false, ==-true, ==-false}
+use Rattle.records.proofs.FieldLaws.{copied-cell}
 use native.Mathlib.Omega.{arith}
 use borrow.Author.Needs.{needs}
 use Rattle.records.proofs.rules.open_end.Statement.{statement}
@@ -16,22 +19,35 @@ returns : tie.Need-returns
 unfolding openEnd _and_
 returns c = rw (← c .before .span .ensures, <?-false 0 (c .before .span .result) (omega arith))
 
-cell-requires : tie.Need-cell-requires
-cell-requires c κs = search needs
+cell-bytes-requires : tie.Need-cell-bytes-requires
+cell-bytes-requires c κs = search needs
+
+copied-cell-requires : tie.Need-copied-cell-requires
+copied-cell-requires c κs = search needs
 
 returns-2 : tie.Need-returns-2
 unfolding openEnd _and_ _or_
-returns-2 c = rw (← c .before .before .before .span .ensures, ← c .before .cell .ensures, <?-true 0 (c .before .before .before .span .result) (omega arith), ==-true _ _ (c .if2 .taken))
+returns-2 c =
+    let copied = c .before .before .before in
+    let spanned = copied .before .before in
+    let first = c .before .copied-cell .ensures ∙ copied-cell (spanned .before .before .args .part .now) _ 0 (copied .cell-bytes .ensures) in
+    rw (← spanned .span .ensures, ← first, <?-true 0 (spanned .span .result) (omega arith), ==-true _ _ (c .if2 .taken))
 
-sub-cell : tie.Need-sub-cell
-sub-cell c = search needs
+sub-copied-cell : tie.Need-sub-copied-cell
+sub-copied-cell c = search needs
 
-cell-requires-2 : tie.Need-cell-requires-2
-cell-requires-2 c κs = search needs
+copied-cell-requires-2 : tie.Need-copied-cell-requires-2
+copied-cell-requires-2 c κs = search needs
 
 returns-3 : tie.Need-returns-3
 unfolding openEnd _and_ _or_ _==_
-returns-3 c = rw (← c .before .before .before .before .span .ensures, ← c .before .before .cell .ensures, ← c .cell2 .ensures, <?-true 0 (c .before .before .before .before .span .result) (omega arith), ==-false _ _ (c .before .if2 .left))
+returns-3 c =
+    let copied = c .before .before .before .before .before in
+    let spanned = copied .before .before in
+    let r = spanned .before .before .args .part .now in
+    let first = c .before .before .before .copied-cell .ensures ∙ copied-cell r _ 0 (copied .cell-bytes .ensures) in
+    let last = c .copied-cell2 .ensures ∙ copied-cell r _ (spanned .span .result - 1) (copied .cell-bytes .ensures) in
+    rw (← spanned .span .ensures, ← first, ← last, <?-true 0 (spanned .span .result) (omega arith), ==-false _ _ (c .before .before .if2 .left))
 
 pub open-end-spec : {M : Type 1} → statement M
 open-end-spec =
@@ -40,8 +56,9 @@ open-end-spec =
     span-requires
     cast-k
     returns
-    cell-requires
+    cell-bytes-requires
+    copied-cell-requires
     returns-2
-    sub-cell
-    cell-requires-2
+    sub-copied-cell
+    copied-cell-requires-2
     returns-3)
