@@ -1,7 +1,7 @@
 -- The table over pairs of states, one fragment more: its room, its rows, and what it holds.
 -- Assumes nothing.
 use mathlib.Core.Path.{_≡_, refl, sym, ap, ap₂, subst, _∙_}
-use mathlib.Core.Bool.{Bool}
+use mathlib.Core.Bool.{Bool, true, false}
 use mathlib.Core.List.{List}
 use Prim.Native.Nat.{ℕ, suc, _+_, _*_, _^_, _-_, _/_, _%_, _≤_, _<_, min}
 use native.Mathlib.Nat.{le-refl}
@@ -70,6 +70,13 @@ choose-same ea eb eo ex ey ez = rw (ea, eb, eo, ex, ey, ez)
 pub chosen-weight : (a b b′ : Bool) (out here : ℕ) {x y z two one gone best r : ℕ} → b ≡ b′ → gone ≡ out + here → best ≡ (if b then min gone two else gone) → r ≡ (if a then min best one else best)
     → one ≡ x → two ≡ y → here ≡ z → r ≡ choose a b′ out x y z
 chosen-weight a b b′ out here e eg eb er ex ey ez = er ∙ rw (eb, eg, e, ex, ey, ez)
+
+-- a weight that may be taken, and one that may not
+pub taken-weight : {may : Bool} (best : ℕ) {other x r : ℕ} → may ≡ true → r ≡ min best other → other ≡ x → r ≡ (if may then min best x else best)
+taken-weight best e a b = a ∙ rw (e, b)
+
+pub left-weight : {may : Bool} (best x : ℕ) → may ≡ false → best ≡ (if may then min best x else best)
+left-weight best x e = rw e
 
 -- ---- a row in place
 

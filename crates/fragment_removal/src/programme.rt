@@ -3,15 +3,15 @@ use crate::fragments;
 use ranks::rank::Rank;
 use ranks::table;
 ghost use mathlib.Core.Path.{_≡_};
-ghost use Prim.Native.Nat.{_+_, _*_, _-_, _<_, _≤_};
+ghost use Prim.Native.Nat.{_+_, _*_, _-_, _<_, _≤_, min};
 ghost use lib.ListN.{length, replicate};
-ghost use Rattle.records.specs.Below.{tab};
+ghost use Rattle.records.specs.Below.{if_then_else_, tab};
 ghost use Rattle.conflicts.specs.Choice.{marked, zeros};
 ghost use Rattle.conflicts.specs.Grid.{matrixGrid};
 ghost use Rattle.conflicts.specs.Removal.{fragmentKeepMarks};
 ghost use Rattle.ranks.specs.Weight.{digitAt};
 ghost use Rattle.ranks.specs.Reading.{code, value};
-ghost use Rattle.ranks.specs.Tables.{at, Sweep};
+ghost use Rattle.ranks.specs.Tables.{at, Inside, Sweep};
 ghost use Rattle.fragment_removal.specs.Fragments.{Cleared, entries};
 ghost use Rattle.conflicts.specs.Matrix.{Gapless};
 ghost use Rattle.fragment_removal.specs.Programme.{furthest, choose, withFragment};
@@ -35,6 +35,17 @@ fn is_marked(marks: &[u8], s: usize) -> bool
     ensures { λ r. ⌜ r ≡ marked (now (marks .entry)) s ⌝ }
 {
     0 < marks[s]
+}
+
+// The lesser of a weight and that at place j, which is read only where it may be taken.
+fn lesser_at(best: Rank, may: bool, counts: &[u16], highs: &[u64], lows: &[u64], j: usize) -> Rank
+    requires { ⌜ Inside (now counts) (now highs) (now lows) j ⌝ }
+    ensures { λ r. ⌜ value r ≡ if may then min (value best) (at (now (counts .entry)) (now (highs .entry)) (now (lows .entry)) j) else value best ⌝ }
+{
+    if may {
+        return best.lesser(table::get(counts, highs, lows, j));
+    }
+    best
 }
 
 // The least weight at states h and l with the fragment at place i before those of the table. It weighs `out` if it is removed, and joins side 1 where it `may`, which is then at state `one`.
@@ -61,10 +72,8 @@ fn weight_at(
     let may_two = is_marked(agrees, l);
     let here = table::get(counts, highs, lows, h * 129 + l);
     let gone = out.plus(here);
-    let second = table::get(counts, highs, lows, h * 129 + two);
-    let first = table::get(counts, highs, lows, one * 129 + l);
-    let best = gone.lesser_if(may_two, second);
-    best.lesser_if(may, first)
+    let best = lesser_at(gone, may_two, counts, highs, lows, h * 129 + two);
+    lesser_at(best, may, counts, highs, lows, one * 129 + l)
 }
 
 // The fragment at place i, at state h of side 1 and every state of side 2 before it.

@@ -1,6 +1,6 @@
 -- `programme::weight_at` meets its contract. A call's `.ok` says that the fields of the Rank it hands back fit; `.1 .1 .1 .0 .1` is its higher word, `.1 .1 .1 .1 .0 .1` its lower.
 -- Assumes nothing.
-use mathlib.Core.Path.{sym, ap, subst, _∙_}
+use mathlib.Core.Path.{refl, sym, ap, subst}
 use Prim.Native.Nat.{ℕ, _+_, _*_, _≤_}
 use borrow.Author.Needs.{needs}
 use Rattle.conflicts.specs.Choice.{marked}
@@ -33,40 +33,34 @@ get-requires c κs = search needs
 plus-requires : tie.Need-plus-requires
 plus-requires c κs = let s = c .before .before .before .before .before .before .before .before in let f = s .pre .7 in sum-fits (s .args .out) (c .get .result) (f .others) (f .few) (f .fits) (search needs) (search needs) (c .get .ensures) (f .rest-small)
 
-mul-get-2 : tie.Need-mul-get-2
-mul-get-2 c = search needs
+mul-lesser-at : tie.Need-mul-lesser-at
+mul-lesser-at c = search needs
 
-add-get-2 : tie.Need-add-get-2
-add-get-2 c = let l = two c in search needs
+add-lesser-at : tie.Need-add-lesser-at
+add-lesser-at c = let l = two c in search needs
 
-get-requires-2 : tie.Need-get-requires-2
-get-requires-2 c κs = let l = two c in search needs
+lesser-at-requires : tie.Need-lesser-at-requires
+lesser-at-requires c κs = let l = two c in search needs
 
-mul-get-3 : tie.Need-mul-get-3
-mul-get-3 c = search needs
+mul-lesser-at-2 : tie.Need-mul-lesser-at-2
+mul-lesser-at-2 c = search needs
 
-add-get-3 : tie.Need-add-get-3
-add-get-3 c = search needs
+add-lesser-at-2 : tie.Need-add-lesser-at-2
+add-lesser-at-2 c = search needs
 
-get-requires-3 : tie.Need-get-requires-3
-get-requires-3 c κs = search needs
-
-lesser-if-requires : tie.Need-lesser-if-requires
-lesser-if-requires c κs = search needs
-
-lesser-if-requires-2 : tie.Need-lesser-if-requires-2
-lesser-if-requires-2 c κs = search needs
+lesser-at-requires-2 : tie.Need-lesser-at-requires-2
+lesser-at-requires-2 c κs = search needs
 
 returns : tie.Need-returns
 returns c =
-    let s = c .before .before .before .before .before .before .before .before .before .before .before .before .before in
+    let s = c .before .before .before .before .before .before .before .before .before .before .before in
     let a = s .args in
     let f = s .pre .7 in
     let v = at (a .counts .now) (a .highs .now) (a .lows .now) in
     let b = marked (a .agrees .now) (a .l) in
-    let is = chosen-weight (a .may) (c .before .before .before .before .before .before .is-marked .result) b (value (a .out)) (value (c .before .before .before .before .before .get .result)) (c .before .before .before .before .before .before .is-marked .ensures) (c .before .before .before .before .plus .ensures) (c .before .lesser-if .ensures) (c .lesser-if2 .ensures)
-    (c .before .before .get3 .ensures) (c .before .before .before .get2 .ensures ∙ ap (λ (x : ℕ). v (a .h * 129 + x)) (c .before .before .before .before .before .before .before .furthest-of .ensures)) (c .before .before .before .before .before .get .ensures) in
-    (is, count-fits (a .out) (c .lesser-if2 .result) (a .may) b (f .others) (f .few) (f .fits) (c .lesser-if2 .ok .1 .1 .1 .0 .1) (c .lesser-if2 .ok .1 .1 .1 .1 .0 .1) is (f .one-small) (f .two-small) (f .rest-small))
+    let is = chosen-weight (a .may) (c .before .before .before .before .is-marked .result) b (value (a .out)) (value (c .before .before .before .get .result)) (c .before .before .before .before .is-marked .ensures) (c .before .before .plus .ensures) (c .before .lesser-at .ensures) (c .lesser-at2 .ensures)
+    refl (ap (λ (x : ℕ). v (a .h * 129 + x)) (c .before .before .before .before .before .furthest-of .ensures)) (c .before .before .before .get .ensures) in
+    (is, count-fits (a .out) (c .lesser-at2 .result) (a .may) b (f .others) (f .few) (f .fits) (c .lesser-at2 .ok .1 .1 .1 .0 .1) (c .lesser-at2 .ok .1 .1 .1 .1 .0 .1) is (f .one-small) (f .two-small) (f .rest-small))
 
 pub weight-at-spec : {M : Type 1} → statement M
 weight-at-spec =
@@ -78,12 +72,10 @@ weight-at-spec =
     add-get
     get-requires
     plus-requires
-    mul-get-2
-    add-get-2
-    get-requires-2
-    mul-get-3
-    add-get-3
-    get-requires-3
-    lesser-if-requires
-    lesser-if-requires-2
+    mul-lesser-at
+    add-lesser-at
+    lesser-at-requires
+    mul-lesser-at-2
+    add-lesser-at-2
+    lesser-at-requires-2
     returns)
