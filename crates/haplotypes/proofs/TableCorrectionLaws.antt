@@ -3,7 +3,7 @@
 use mathlib.Core.Path.{_≡_, refl, sym, ap, ap₂, _∙_}
 use mathlib.Core.Bool.{Bool}
 use mathlib.Core.List.{List, [], _∷_, _++_}
-use Prim.Native.Nat.{ℕ, zero, suc, _+_, _*_, _%_, _≤_, _<_}
+use Prim.Native.Nat.{ℕ, zero, suc, _+_, _*_, _≤_, _<_}
 use native.Mathlib.Nat.{lt-of-lt-of-le}
 use native.Mathlib.Omega.{arith}
 use lib.Dec.{lit≤}
@@ -22,8 +22,6 @@ use Rattle.conflicts.specs.Choice.{keepAll}
 use Rattle.conflicts.specs.Grid.{Grid, gridOf, matrixGrid, withCells, depth}
 use Rattle.conflicts.specs.Corrections.{cost, leastCostSides, correctedCell, corrected, changedCells}
 use Rattle.conflicts.specs.Answer.{answer, correctedGrid, correctionAnswer, correctedTable}
-use Rattle.conflicts.specs.Matrix.{Gapless}
-use Rattle.conflicts.specs.Minimality.{Corrected}
 use Rattle.conflicts.specs.Services.{written, workAfter, depthRules, correctionRules, correctionsLeaves}
 use Rattle.conflicts.proofs.SameLaws.{answer-cells}
 use Rattle.conflicts.proofs.LeastCorrections.{least-length, least-on}

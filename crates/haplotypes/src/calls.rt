@@ -1,8 +1,7 @@
 // C: the fewest calls to correct.
 ghost use mathlib.Core.Path.{_≡_};
 ghost use Prim.Native.Nat.{_*_};
-ghost use lib.ListN.{length, replicate};
-ghost use Rattle.records.specs.Table.{fragments};
+ghost use lib.ListN.{length};
 ghost use Rattle.records.specs.Outcome.{outcomeOf};
 ghost use Rattle.conflicts.specs.Choice.{keepAll};
 ghost use Rattle.conflicts.specs.Grid.{gridOf, matrixGrid};

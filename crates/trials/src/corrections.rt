@@ -16,7 +16,6 @@ use crate::tables::rows;
 use crate::tables::stair_table;
 use crate::tables::with_record;
 use haplotypes::least_corrections;
-use records::Outcome;
 
 // The first byte of each record's cells, in a table of few records.
 fn cell_bytes(corrected: &[u8]) {

@@ -1,9 +1,6 @@
 -- `calls::correct_shallow` meets its contract.
 -- Assumes nothing.
-use mathlib.Core.Path.{_≡_, sym, _∙_}
-use native.Mathlib.Omega.{arith}
-use Rattle.conflicts.specs.Grid.{matrixGrid}
-use Rattle.corrections.specs.Columns.{firstDeep}
+use mathlib.Core.Path.{sym, _∙_}
 use Rattle.haplotypes.proofs.StageLaws.{correction-sized, correction-answer, correction-output, correction-kept}
 use Rattle.haplotypes.proofs.TableCorrectionLaws.{table-deep, shallow-columns, correction-deep, correction-accepts}
 use borrow.Author.Needs.{needs}

@@ -1,11 +1,11 @@
 -- `rewriting::fill_records` meets its contract. The invariant: the bytes passed are the new ones.
 -- Assumes nothing.
 use Prim.Native.Nat.{ℕ, _*_, _-_, _/_, _%_, _<_}
-use mathlib.Core.Path.{_≡_, sym, ap, _∙_}
+use mathlib.Core.Path.{sym, ap, _∙_}
 use mathlib.Core.List.{List}
 use native.Mathlib.Omega.{arith}
 use lib.ListN.{length, getD}
-use Rattle.records.specs.Table.{fragments, recordAt}
+use Rattle.records.specs.Table.{fragments}
 use Rattle.records.proofs.PartLaws.{part-record}
 use Rattle.records.proofs.TableLaws.{length-recordAt}
 use Rattle.records.proofs.FillLaws.{Filled, filled-none, filled-more, filled-all}
