@@ -48,7 +48,7 @@ fn new_byte(part: &[u8], cells: &[u8], i: usize, b: usize) -> u8
 }
 
 // Writes the records.
-pub fn fill_records(table: &[u8], cells: &[u8], output: &mut [u8])
+pub(crate) fn fill_records(table: &[u8], cells: &[u8], output: &mut [u8])
     requires { ⌜ TwoBits (now cells) × (fragments (now table) ≤ 128) × (length (now output) ≡ fragments (now table) * 32) ⌝ }
     ensures { λ _. ⌜ now (output .exit) ≡ rewrittenTable (now (table .entry)) (now (cells .entry)) ⌝ }
 {

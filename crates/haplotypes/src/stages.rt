@@ -36,7 +36,7 @@ fn lent_fault(n: usize, table: &[u8], work: &[u16], answer: &[u8]) -> Outcome
 }
 
 // Every rule of S and F.
-pub fn removal_fault(n: usize, table: &[u8], work: &[u16], answer: &[u8]) -> Outcome
+pub(crate) fn removal_fault(n: usize, table: &[u8], work: &[u16], answer: &[u8]) -> Outcome
     ensures { λ r. ⌜ outcomeOf r ≡ decide (removalRules n (now (table .entry)) (now (answer .entry)) (now (work .entry))) (accepted (fragments (now (table .entry)))) ⌝ }
 {
     let lent = lent_fault(n, table, work, answer);
@@ -47,7 +47,7 @@ pub fn removal_fault(n: usize, table: &[u8], work: &[u16], answer: &[u8]) -> Out
 }
 
 // Every rule of C but 12.
-pub fn correction_fault(
+pub(crate) fn correction_fault(
     n: usize,
     table: &[u8],
     work: &[u16],

@@ -40,7 +40,7 @@ fn put_signs(
 }
 
 // A space, then the signs; a full stop where there is no code.
-pub fn put_field(
+pub(crate) fn put_field(
     signs: &[u8],
     bytes: &[u8],
     from: usize,
@@ -100,7 +100,13 @@ fn put_blocks(bytes: &[u8], from: usize, count: usize, out: &mut [u8], at: usize
 }
 
 // A space, then the blocks; a full stop where there is no fragment.
-pub fn put_block_field(bytes: &[u8], from: usize, count: usize, out: &mut [u8], at: usize) -> usize
+pub(crate) fn put_block_field(
+    bytes: &[u8],
+    from: usize,
+    count: usize,
+    out: &mut [u8],
+    at: usize,
+) -> usize
     requires { ⌜ from + count ≤ length (now bytes) ⌝ }
     requires { ⌜ at + (4 * count + 22) ≤ length (now out) ⌝ }
     ensures appended { λ r. ⌜ Appended (32 ∷ field (joined 44 (tab count (λ i. blockWord (getD (now (bytes .entry)) (from + i) 0))))) at (now (out .entry)) r (now (out .exit)) ⌝ }

@@ -13,7 +13,7 @@ use crate::text::put_number;
 use crate::text::put_text;
 use records::Outcome;
 
-pub fn put_refusal(number: u8, place: usize, out: &mut [u8], at: usize) -> usize
+pub(crate) fn put_refusal(number: u8, place: usize, out: &mut [u8], at: usize) -> usize
     requires { ⌜ at + 60 ≤ length (now out) ⌝ }
     ensures appended { λ r. ⌜ Appended (line (refusal number place)) at (now (out .entry)) r (now (out .exit)) ⌝ }
     ensures within { λ r. ⌜ r ≤ at + 60 ⌝ }
@@ -25,7 +25,7 @@ pub fn put_refusal(number: u8, place: usize, out: &mut [u8], at: usize) -> usize
     put_byte(b'\n', out, d)
 }
 
-pub fn put_sizes(m: usize, n: usize, out: &mut [u8], at: usize) -> usize
+pub(crate) fn put_sizes(m: usize, n: usize, out: &mut [u8], at: usize) -> usize
     requires { ⌜ at + 60 ≤ length (now out) ⌝ }
     ensures appended { λ r. ⌜ Appended (sizesLine m n) at (now (out .entry)) r (now (out .exit)) ⌝ }
     ensures within { λ r. ⌜ r ≤ at + 60 ⌝ }
@@ -38,7 +38,7 @@ pub fn put_sizes(m: usize, n: usize, out: &mut [u8], at: usize) -> usize
 }
 
 // The second line, from what check says: it refuses no table that is accepted.
-pub fn put_error_free(outcome: Outcome, out: &mut [u8], at: usize) -> usize
+pub(crate) fn put_error_free(outcome: Outcome, out: &mut [u8], at: usize) -> usize
     requires { ⌜ at + 60 ≤ length (now out) ⌝ }
     ensures appended { λ r. ⌜ Appended (errorFreeLine (outcomeOf outcome)) at (now (out .entry)) r (now (out .exit)) ⌝ }
     ensures within { λ r. ⌜ r ≤ at + 60 ⌝ }
@@ -93,7 +93,7 @@ fn put_fields(m: usize, n: usize, count: usize, answer: &[u8], out: &mut [u8], a
 }
 
 // The line of S, F or C: the count takes at most 20 bytes, a block with its comma at most 4.
-pub fn put_service(
+pub(crate) fn put_service(
     letter: u8,
     m: usize,
     n: usize,

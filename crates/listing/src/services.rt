@@ -32,7 +32,7 @@ fn blank_table() -> [u8; 4096]
     [0u8; 4096]
 }
 
-pub fn put_check(m: usize, n: usize, table: &[u8], out: &mut [u8], at: usize) -> usize
+pub(crate) fn put_check(m: usize, n: usize, table: &[u8], out: &mut [u8], at: usize) -> usize
     requires { ⌜ (m ≤ 128) × (n ≤ 128) ⌝ }
     requires { ⌜ at + 60 ≤ length (now out) ⌝ }
     ensures appended { λ r. ⌜ Appended (checkLine m n (now (table .entry))) at (now (out .entry)) r (now (out .exit)) ⌝ }
@@ -44,7 +44,7 @@ pub fn put_check(m: usize, n: usize, table: &[u8], out: &mut [u8], at: usize) ->
     put_error_free(outcome, out, at)
 }
 
-pub fn put_snps(m: usize, n: usize, table: &[u8], out: &mut [u8], at: usize) -> usize
+pub(crate) fn put_snps(m: usize, n: usize, table: &[u8], out: &mut [u8], at: usize) -> usize
     requires { ⌜ (m ≤ 128) × (n ≤ 128) ⌝ }
     requires { ⌜ at + 1086 ≤ length (now out) ⌝ }
     ensures appended { λ r. ⌜ Appended (snpLine m n (now (table .entry))) at (now (out .entry)) r (now (out .exit)) ⌝ }
@@ -57,7 +57,7 @@ pub fn put_snps(m: usize, n: usize, table: &[u8], out: &mut [u8], at: usize) -> 
     put_service(b'S', m, n, outcome, &answer[0..size], out, at)
 }
 
-pub fn put_fragments(m: usize, n: usize, table: &[u8], out: &mut [u8], at: usize) -> usize
+pub(crate) fn put_fragments(m: usize, n: usize, table: &[u8], out: &mut [u8], at: usize) -> usize
     requires { ⌜ (m ≤ 128) × (n ≤ 128) ⌝ }
     requires { ⌜ at + 1086 ≤ length (now out) ⌝ }
     ensures appended { λ r. ⌜ Appended (fragmentLine m n (now (table .entry))) at (now (out .entry)) r (now (out .exit)) ⌝ }
@@ -70,7 +70,7 @@ pub fn put_fragments(m: usize, n: usize, table: &[u8], out: &mut [u8], at: usize
     put_service(b'F', m, n, outcome, &answer[0..size], out, at)
 }
 
-pub fn put_corrections(m: usize, n: usize, table: &[u8], out: &mut [u8], at: usize) -> usize
+pub(crate) fn put_corrections(m: usize, n: usize, table: &[u8], out: &mut [u8], at: usize) -> usize
     requires { ⌜ (m ≤ 128) × (n ≤ 128) ⌝ }
     requires { ⌜ at + 1086 ≤ length (now out) ⌝ }
     ensures appended { λ r. ⌜ Appended (correctionLine m n (now (table .entry))) at (now (out .entry)) r (now (out .exit)) ⌝ }

@@ -5,7 +5,7 @@ ghost use lib.ListN.{length};
 ghost use Rattle.listing.specs.Appended.{Appended};
 ghost use Rattle.listing.specs.Listing.{decimal};
 
-pub fn put_byte(b: u8, out: &mut [u8], at: usize) -> usize
+pub(crate) fn put_byte(b: u8, out: &mut [u8], at: usize) -> usize
     requires { ⌜ at < length (now out) ⌝ }
     ensures { λ r. ⌜ Appended (b ∷ []) at (now (out .entry)) r (now (out .exit)) ⌝ }
 {
@@ -13,7 +13,7 @@ pub fn put_byte(b: u8, out: &mut [u8], at: usize) -> usize
     at + 1
 }
 
-pub fn put_text(text: &[u8], out: &mut [u8], at: usize) -> usize
+pub(crate) fn put_text(text: &[u8], out: &mut [u8], at: usize) -> usize
     requires { ⌜ at + length (now text) ≤ length (now out) ⌝ }
     ensures { λ r. ⌜ Appended (now (text .entry)) at (now (out .entry)) r (now (out .exit)) ⌝ }
 {
@@ -27,7 +27,7 @@ pub fn put_text(text: &[u8], out: &mut [u8], at: usize) -> usize
 }
 
 // A number of 64 bits has at most 20 digits.
-pub fn put_number(x: usize, out: &mut [u8], at: usize) -> usize
+pub(crate) fn put_number(x: usize, out: &mut [u8], at: usize) -> usize
     requires { ⌜ at + 20 ≤ length (now out) ⌝ }
     ensures appended { λ r. ⌜ Appended (decimal x) at (now (out .entry)) r (now (out .exit)) ⌝ }
     ensures within { λ r. ⌜ r ≤ at + 20 ⌝ }

@@ -39,7 +39,7 @@ fn call_check(
     run_check(label, n, m, &table[0..bytes], &mut answer[0..answer_count]);
 }
 
-pub fn check_sizes() {
+pub(crate) fn check_sizes() {
     let table = plain_table();
     call_check(b"no fragments, no columns", 0, 0, table, 0, 0);
     call_check(b"128 fragments, 128 columns", 128, 128, table, 4096, 640);
@@ -54,7 +54,7 @@ pub fn check_sizes() {
 }
 
 // Yes and no, the same in another record order, and a fragment without calls.
-pub fn check_verdicts() {
+pub(crate) fn check_verdicts() {
     call_check(b"printed", 3, 3, printed(0, 1, 2), 96, 15);
     call_check(b"AA, AB, BA", 2, 3, rows(2, 5, 9, 6), 96, 12);
     call_check(b"AA, BB, AA", 2, 3, rows(2, 5, 10, 5), 96, 12);

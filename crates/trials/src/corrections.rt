@@ -119,7 +119,7 @@ fn correct(label: &[u8], n: usize, m: usize, table: [u8; 4160]) {
     call_corrections(label, n, m, table, 32768, 3 * n + 2 * m, 32 * m);
 }
 
-pub fn correction_sizes() {
+pub(crate) fn correction_sizes() {
     let table = printed(0, 1, 2);
     correct(b"work 32,768", 3, 3, table);
     call_corrections(b"work 32,767", 3, 3, table, 32767, 15, 96);
@@ -144,7 +144,7 @@ pub fn correction_sizes() {
 }
 
 // Rule 12: nine calls in column 0; in column 1 nine and in column 2 ten; a refused record comes before it.
-pub fn correction_depths() {
+pub(crate) fn correction_depths() {
     correct(b"depth 8", 1, 8, plain_table());
     correct(b"depth 9", 1, 9, plain_table());
     correct(b"depths 8, 9 and 10", 3, 10, deep_table());
@@ -153,7 +153,7 @@ pub fn correction_depths() {
 }
 
 // The same fragments in other record orders: the number stays, and the sides are the first by record position.
-pub fn correction_orders() {
+pub(crate) fn correction_orders() {
     correct(b"printed, -BB first", 3, 3, printed(1, 2, 0));
     correct(b"printed, BAA first", 3, 3, printed(2, 0, 1));
     correct(b"equal fragments", 2, 3, rows(2, 5, 5, 5));
@@ -164,7 +164,7 @@ pub fn correction_orders() {
 }
 
 // A column no one calls; fragments without calls; a column that costs less as all A on both sides; nothing.
-pub fn correction_shapes() {
+pub(crate) fn correction_shapes() {
     let three = rows(2, 5, 9, 6);
     correct(b"a column no one calls", 3, 3, three);
     correct(

@@ -28,7 +28,7 @@ fn call_find(label: &[u8], sought: u32, table: [u8; 4160], bytes: usize) {
 }
 
 // Records 1 and 2 have tag 1, and end in 50 and 60.
-pub fn finds() {
+pub(crate) fn finds() {
     let table = with_byte(with_byte(with_byte(plain_table(), 64, 1), 63, 50), 95, 60);
     call_find(b"the first record", 0, table, 96);
     call_find(b"the first of equal tags", 1, table, 96);

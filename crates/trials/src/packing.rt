@@ -47,7 +47,7 @@ fn call_pack(
     );
 }
 
-pub fn pack_sizes() {
+pub(crate) fn pack_sizes() {
     let cells = blank_cells(1);
     let tags = counted_tags();
     call_pack(b"no fragments, no columns", 0, cells, 0, tags, 0, 0);
@@ -77,7 +77,7 @@ fn pack_row(label: &[u8], a: u8, b: u8, c: u8) {
     call_pack(label, 3, cells, 6, counted_tags(), 2, 64);
 }
 
-pub fn pack_fragments() {
+pub(crate) fn pack_fragments() {
     pack_row(b"a code 3", 1, 3, 1);
     pack_row(b"a code 3 and a gap", 1, 0, 3);
     pack_row(b"a hole between two calls", 1, 0, 2);

@@ -2,20 +2,20 @@
 use libc::STDOUT_FILENO;
 use records::Outcome;
 
-pub fn text(bytes: &[u8]) {
+pub(crate) fn text(bytes: &[u8]) {
     io::write_all(STDOUT_FILENO, bytes);
 }
 
-pub fn number(x: usize) {
+pub(crate) fn number(x: usize) {
     io::print_decimal(STDOUT_FILENO, x as u64);
 }
 
-pub fn wide(x: u8) -> usize {
+pub(crate) fn wide(x: u8) -> usize {
     x as usize
 }
 
 // An outcome, and whether the buffers that were lent are as they were.
-pub fn result(outcome: Outcome, untouched: bool) {
+pub(crate) fn result(outcome: Outcome, untouched: bool) {
     match outcome {
         Outcome::Accepted(count) => {
             text(b": accepted ");
@@ -35,7 +35,7 @@ pub fn result(outcome: Outcome, untouched: bool) {
 }
 
 // The digits of a part of the answer.
-pub fn digits(part: &[u8]) {
+pub(crate) fn digits(part: &[u8]) {
     let mut k = 0;
     while k < part.len() {
         number(wide(part[k]));

@@ -17,7 +17,7 @@ use haplotypes::least_snp_removal;
 use records::Outcome;
 
 // The keep marks and the sides of an answer for few columns and fragments.
-pub fn marks_and_sides(n: usize, m: usize, answer: &[u8]) {
+pub(crate) fn marks_and_sides(n: usize, m: usize, answer: &[u8]) {
     if 12 < n {
         return;
     }
@@ -109,7 +109,7 @@ fn call_removal(
     }
 }
 
-pub fn removal_sizes() {
+pub(crate) fn removal_sizes() {
     let table = printed(0, 1, 2);
     call_removal(b"work 32,768", true, 3, 3, table, 32768, 15);
     call_removal(b"work 32,767", true, 3, 3, table, 32767, 15);
@@ -126,7 +126,7 @@ pub fn removal_sizes() {
 }
 
 // The same fragments in other record orders: the number stays, and the set is the first by record position.
-pub fn removal_orders() {
+pub(crate) fn removal_orders() {
     call_removal(
         b"printed, -BB first",
         true,
@@ -162,7 +162,7 @@ pub fn removal_orders() {
 }
 
 // AA, AB, BA with a column of As between or after them, or one that no one calls; a fragment without calls; short fragments inside a long one.
-pub fn removal_shapes() {
+pub(crate) fn removal_shapes() {
     let between = rows(3, 21, 37, 22);
     call_removal(b"an unmixed column between", true, 3, 3, between, 32768, 15);
     let after = rows(2, 5, 9, 6);

@@ -4,7 +4,7 @@ use crate::buffers::blank_table;
 use crate::buffers::with_byte;
 
 // 130 records, each with its own tag and one A at column 0.
-pub fn plain_table() -> [u8; 4160] {
+pub(crate) fn plain_table() -> [u8; 4160] {
     let mut table = [0u8; 4160];
     let mut i = 0;
     while i < 130 {
@@ -17,7 +17,7 @@ pub fn plain_table() -> [u8; 4160] {
 }
 
 // The tags 0, 1, 2, ….
-pub fn counted_tags() -> [u32; 130] {
+pub(crate) fn counted_tags() -> [u32; 130] {
     let mut tags = [0u32; 130];
     let mut k = 0;
     while k < 130 {
@@ -28,7 +28,7 @@ pub fn counted_tags() -> [u32; 130] {
 }
 
 // One record of 96 As with the given span.
-pub fn long_record(span: u8) -> [u8; 4160] {
+pub(crate) fn long_record(span: u8) -> [u8; 4160] {
     let mut table = [85u8; 4160];
     table[0] = 0;
     table[1] = 0;
@@ -42,7 +42,13 @@ pub fn long_record(span: u8) -> [u8; 4160] {
 }
 
 // Record i of a table: tag i, and up to four cells.
-pub fn with_record(table: [u8; 4160], i: usize, start: u8, span: u8, cells: u8) -> [u8; 4160] {
+pub(crate) fn with_record(
+    table: [u8; 4160],
+    i: usize,
+    start: u8,
+    span: u8,
+    cells: u8,
+) -> [u8; 4160] {
     if 129 < i {
         return table;
     }
@@ -54,13 +60,13 @@ pub fn with_record(table: [u8; 4160], i: usize, start: u8, span: u8, cells: u8) 
 }
 
 // Three records from column 0 on, of one span, with these cells.
-pub fn rows(span: u8, a: u8, b: u8, c: u8) -> [u8; 4160] {
+pub(crate) fn rows(span: u8, a: u8, b: u8, c: u8) -> [u8; 4160] {
     let one = with_record(blank_table(0), 0, 0, span, a);
     with_record(with_record(one, 1, 0, span, b), 2, 0, span, c)
 }
 
 // AA-, BAA, -BB, the table that paper 01 prints, and the same in other orders of its records.
-pub fn printed(a: usize, b: usize, c: usize) -> [u8; 4160] {
+pub(crate) fn printed(a: usize, b: usize, c: usize) -> [u8; 4160] {
     with_record(
         with_record(with_record(blank_table(0), a, 0, 2, 5), b, 0, 3, 22),
         c,
@@ -110,7 +116,7 @@ fn pattern_byte(b: usize, c: usize) -> u8 {
 }
 
 // The eight rows over columns 0 to 95, and again over columns 32 to 127. Column 127 is all B; of the mixed ones, one below 32 and one above 95 can stay.
-pub fn pattern_table() -> [u8; 4160] {
+pub(crate) fn pattern_table() -> [u8; 4160] {
     let mut table = [0u8; 4160];
     let mut j = 0;
     while j < 384 {
@@ -126,7 +132,7 @@ pub fn pattern_table() -> [u8; 4160] {
 }
 
 // Ten fragments of As: 8 call columns 0 to 2, one columns 1 and 2, one column 2.
-pub fn deep_table() -> [u8; 4160] {
+pub(crate) fn deep_table() -> [u8; 4160] {
     let mut table = [0u8; 4160];
     let mut i = 0;
     while i < 8 {
@@ -139,7 +145,7 @@ pub fn deep_table() -> [u8; 4160] {
 }
 
 // 128 fragments of 8 columns: the 8 rows of the pattern, at each of columns 0, 8, 16, ..
-pub fn stair_table() -> [u8; 4160] {
+pub(crate) fn stair_table() -> [u8; 4160] {
     let mut table = [0u8; 4160];
     let mut i = 0;
     while i < 128 {

@@ -49,7 +49,7 @@ fn call_unpack(
     );
 }
 
-pub fn unpack_sizes() {
+pub(crate) fn unpack_sizes() {
     let table = plain_table();
     call_unpack(b"no fragments, no columns", 0, table, 0, 0, 0);
     call_unpack(b"no fragments, 128 columns", 128, table, 0, 0, 0);
@@ -86,7 +86,7 @@ fn fault(label: &[u8], n: usize, at: usize, value: u8) {
 }
 
 // Each rule of a record, at record 1.
-pub fn unpack_records() {
+pub(crate) fn unpack_records() {
     fault(b"span over 96", 128, 6, 97);
     fault(b"start + span over n", 2, 4, 2);
     fault(b"start + span = n", 2, 4, 1);
@@ -117,7 +117,7 @@ pub fn unpack_records() {
     );
 }
 
-pub fn unpack_spans() {
+pub(crate) fn unpack_spans() {
     call_unpack(b"span 96", 96, long_record(96), 32, 96, 1);
     call_unpack(b"span 96 in 95 columns", 95, long_record(96), 32, 95, 1);
     call_unpack(b"span 97", 97, long_record(97), 32, 97, 1);
