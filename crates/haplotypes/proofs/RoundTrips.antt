@@ -1,6 +1,6 @@
 -- Unpack and pack undo each other on what they accept, and each accepts what the other gives.
 -- Assumes nothing.
-use mathlib.Core.Path.{_≡_, refl, sym, ap, subst, _∙_}
+use mathlib.Core.Path.{_≡_, sym, ap, subst, _∙_}
 use mathlib.Core.List.{List}
 use Prim.Native.Nat.{ℕ, _*_, _<_}
 use native.Mathlib.Omega.{arith}
@@ -9,8 +9,7 @@ use Rattle.records.specs.Record.{codeAt}
 use Rattle.records.specs.Table.{fragments, recordAt, unpackedCells, unpackedTags}
 use Rattle.records.specs.Writing.{rowOf, packed}
 use Rattle.records.specs.Outcome.{accepted}
-use Rattle.records.specs.Rules.{decide, tableRules, tableVerdict}
-use Rattle.records.proofs.RuleLaws.{decide-append, decide-accepted}
+use Rattle.records.specs.Rules.{decide, tableRules}
 use Rattle.records.proofs.PackLaws.{Sound, calls-same, sound-narrow}
 use Rattle.records.proofs.SoundLaws.{sound-row-span, sound-row-small, sound-gapped, gap-same, recordOf-sound, gapped-recordOf}
 use Rattle.records.proofs.TableLaws.{Packable, length-whole, length-unpackedCells, length-unpackedTags, tag-unpacked, row-unpacked, table-again, length-packed, fragments-packed, record-packed, tag-packed, tags-again, unpacked-again}
@@ -18,17 +17,13 @@ use Rattle.records.proofs.AcceptedLaws.{few-columns, whole-records, few-fragmen
 use Rattle.records.proofs.KeptLaws.{sizes-kept, rows-kept, record-kept}
 use Rattle.conflicts.specs.Services.{unpackLeaves, packLeaves}
 use Rattle.haplotypes.specs.Sizes.{Sized, PackSized, FragmentsKept}
+use Rattle.haplotypes.specs.RoundTrips.{UnpackThenPack, PackThenUnpack}
 use Rattle.haplotypes.proofs.SizeLaws.{pack-n, pack-exact, pack-m, pack-sized-of}
 use Rattle.haplotypes.proofs.UnpackLaws.{accepted-sized, accepted-records, left-cells, left-tags, unpack-records}
 use Rattle.haplotypes.proofs.FragmentLaws.{kept-small, kept-narrow, kept-gapless, kept-tags, fragments-kept-of}
 use Rattle.haplotypes.proofs.PackLaws.{pack-fragments, accepted-sizes, accepted-fragments, pack-accepts}
 
 -- ---- table, cells and tags, table
-
--- pack, on the cells and tags that unpack left, accepts every fragment and restores the table
-pub record TableRestored (n : ℕ) (table cells tags out : List ℕ) : Type 0 where
-  pub accepts : packLeaves n (unpackLeaves n table cells tags .cells) (unpackLeaves n table cells tags .tags) out .outcome ≡ accepted (fragments table)
-  pub restores : packLeaves n (unpackLeaves n table cells tags .cells) (unpackLeaves n table cells tags .tags) out .table ≡ table
 
 module _ (n : ℕ) (table : List ℕ) (sized : Sized n (fragments table) table) (kept : decide (tableRules n table) (accepted (fragments table)) ≡ accepted (fragments table)) where
   sound : (i : ℕ) → i < fragments table → Sound n (recordAt table i)
@@ -62,26 +57,20 @@ module _ (n : ℕ) (table : List ℕ) (sized : Sized n (fragments table) table) 
       pack-fragments n _ _ out unpacked-sized (omega arith) ∙ unpacked-fragments .kept ∙ ap accepted m
 
 -- every table of bytes that unpack accepts is restored, byte for byte, by packing what unpack gives
-pub table-round : (n m : ℕ) (table cells tags out : List ℕ) → ((j : ℕ) → j < length table → getD table j 0 < 256) → unpackLeaves n table cells tags .outcome ≡ accepted m → length out ≡ length table
-    → TableRestored n table cells tags out
-table-round n m table cells tags out bytes e exact =
+pub table-round : UnpackThenPack
+table-round n m table cells tags cellsLeft tagsLeft out tableLeft first second bytes unpacks accepts exact packs =
+    let e = sym (unpacks .outcome) ∙ accepts in
     let sized = accepted-sized n m table cells tags e in
     let kept = accepted-records n m table cells tags e in
-    let packs = pack-unpacked n table sized kept out exact in
-    let a = left-cells n m table cells tags e in
-    let b = left-tags n m table cells tags e in
+    let done = pack-unpacked n table sized kept out exact in
+    let a = unpacks .cells-left ∙ left-cells n m table cells tags e in
+    let b = unpacks .tags-left ∙ left-tags n m table cells tags e in
     record {
-      accepts = rw (a, b) packs;
-      restores = rw (a, b) (sym (pack-accepts n _ _ out _ packs .1) ∙ table-again n table (whole-records n table _ _ (sized .kept)) bytes (sound n table sized kept));
+      accepts = packs .outcome ∙ rw (a, b) done;
+      restores = packs .table-left ∙ rw (a, b) (sym (pack-accepts n _ _ out _ done .1) ∙ table-again n table (whole-records n table _ _ (sized .kept)) (bytes .fits) (sound n table sized kept));
     }
 
 -- ---- cells and tags, table, cells and tags
-
--- unpack, on the table that pack left, accepts every record and restores the cells and the tags
-pub record CellsRestored (n : ℕ) (cells tags table cellsOut tagsOut : List ℕ) : Type 0 where
-  pub accepts : unpackLeaves n (packLeaves n cells tags table .table) cellsOut tagsOut .outcome ≡ accepted (length tags)
-  pub restores-cells : unpackLeaves n (packLeaves n cells tags table .table) cellsOut tagsOut .cells ≡ cells
-  pub restores-tags : unpackLeaves n (packLeaves n cells tags table .table) cellsOut tagsOut .tags ≡ tags
 
 module _ (n : ℕ) (cells tags : List ℕ) (sized : PackSized n cells tags) (fragments-kept : FragmentsKept n cells tags) (bits : (i : ℕ) → i < length tags → getD tags i 0 < 4294967296) where
   packable : Packable n cells tags
@@ -113,33 +102,16 @@ module _ (n : ℕ) (cells tags : List ℕ) (sized : PackSized n cells tags) (fra
       unpack-records n (length tags) (packed n cells tags) cellsOut tagsOut packed-sized (e ∙ pack-exact sized) d ∙ packed-records ∙ ap accepted (fragments-packed n cells tags)
 
 -- all cells and tags of 32 bits that pack accepts are restored by unpacking what pack gives
-pub cells-round : (n m : ℕ) (cells tags table cellsOut tagsOut : List ℕ) → ((i : ℕ) → i < length tags → getD tags i 0 < 4294967296) → packLeaves n cells tags table .outcome ≡ accepted m
-    → length cellsOut ≡ length cells → length tagsOut ≡ length tags → CellsRestored n cells tags table cellsOut tagsOut
-cells-round n m cells tags table cellsOut tagsOut bits e same-cells same-tags =
+pub cells-round : PackThenUnpack
+cells-round n m cells tags table tableLeft cellsOut tagsOut cellsLeft tagsLeft first second bits packs accepts same-cells same-tags unpacks =
+    let e = sym (packs .outcome) ∙ accepts in
     let sized = accepted-sizes n cells tags table m e in
     let kept = accepted-fragments n cells tags table m e in
-    let unpacks = unpack-packed n cells tags sized kept bits cellsOut tagsOut same-cells same-tags in
-    let a = pack-accepts n cells tags table m e .1 in
+    let done = unpack-packed n cells tags sized kept (bits .fits) cellsOut tagsOut same-cells same-tags in
+    let a = packs .table-left ∙ sym (pack-accepts n cells tags table m e .1) in
+    let whole = packable n cells tags sized kept (bits .fits) in
     record {
-      accepts = rw (← a) unpacks;
-      restores-cells = rw (← a) (left-cells n _ (packed n cells tags) cellsOut tagsOut unpacks ∙ unpacked-again n cells tags (packable n cells tags sized kept bits));
-      restores-tags = rw (← a) (left-tags n _ (packed n cells tags) cellsOut tagsOut unpacks ∙ tags-again n cells tags (packable n cells tags sized kept bits));
+      accepts = unpacks .outcome ∙ rw a done;
+      restores-cells = unpacks .cells-left ∙ rw a (left-cells n _ (packed n cells tags) cellsOut tagsOut done ∙ unpacked-again n cells tags whole);
+      restores-tags = unpacks .tags-left ∙ rw a (left-tags n _ (packed n cells tags) cellsOut tagsOut done ∙ tags-again n cells tags whole);
     }
-
--- ---- a table packed back into its place
-
--- with outputs of exact length unpack returns the table's verdict
-pub unpack-exact : (n : ℕ) (table cells tags : List ℕ) → Sized n (fragments table) table → length cells ≡ fragments table * n → length tags ≡ fragments table → unpackLeaves n table cells tags .outcome ≡ tableVerdict n table
-unfolding tableVerdict
-unpack-exact n table cells tags sized e d =
-    unpack-records n (fragments table) table cells tags sized e d ∙ sym (decide-append _ _ _ ∙ decide-accepted _ _ _ _ (sized .kept))
-
--- … and packing what an accepted unpack gives returns it too, and leaves the table as it was
-pub repacks : (n m : ℕ) (table cells tags cellsLeft tagsLeft : List ℕ) → ((j : ℕ) → j < length table → getD table j 0 < 256) → Sized n (fragments table) table
-    → length cells ≡ fragments table * n → length tags ≡ fragments table → unpackLeaves n table cells tags .outcome ≡ accepted m
-    → cellsLeft ≡ unpackLeaves n table cells tags .cells → tagsLeft ≡ unpackLeaves n table cells tags .tags
-    → (packLeaves n cellsLeft tagsLeft table .outcome ≡ tableVerdict n table) × (packLeaves n cellsLeft tagsLeft table .table ≡ table)
-repacks n m table cells tags cellsLeft tagsLeft bytes sized e d accepts a b =
-    let round = table-round n m table cells tags table bytes accepts refl in
-    let verdict = sym (unpack-exact n table cells tags sized e d) ∙ unpack-records n (fragments table) table cells tags sized e d ∙ accepted-records n m table cells tags accepts in
-    (rw (a, b) (round .accepts ∙ sym verdict), rw (a, b) (round .restores))

@@ -1,3 +1,4 @@
 pub mod Sizes
 pub mod Meanings
 pub mod Rewriting
+pub mod RoundTrips

@@ -9,13 +9,6 @@ pub(crate) fn blank_cells() -> [u8; 16384]
     [0u8; 16384]
 }
 
-// Room for its tags.
-pub(crate) fn blank_tags() -> [u32; 128]
-    ensures { λ r. ⌜ 128 ≡ length r ⌝ }
-{
-    [0u32; 128]
-}
-
 // The keep marks of a table from which nothing is removed.
 pub(crate) fn all_kept() -> [u8; 128]
     ensures { λ r. ⌜ r ≡ replicate 128 1 ⌝ }
