@@ -1,11 +1,15 @@
--- A test at a kept place: it passes where the mark is not 0 and the test passes.
+-- A test at a kept place: it passes where the mark is not 0 and the test passes. A part of an array of marks.
 -- Assumes nothing.
-use mathlib.Core.Path.{_≡_}
+use mathlib.Core.Path.{_≡_, refl, ap, ap₂, _∙_}
 use mathlib.Core.Bool.{Bool, false}
-use Prim.Native.Nat.{ℕ}
-use native.Mathlib.Nat.{pos-of-ne-zero}
+use mathlib.Core.List.{List, _∷_}
+use Prim.Native.Nat.{ℕ, zero, suc, _-_, _≤_}
+use native.Mathlib.Nat.{pos-of-ne-zero, not-suc-le-zero, sub-zero}
+use native.Mathlib.Omega.{arith}
+use lib.ListN.{take, drop, replicate}
 use borrow.Author.Tests.{lt-ltb}
 use Rattle.records.specs.Below.{_<?_, _and_}
+use Rattle.conflicts.specs.Choice.{keepAll}
 
 pub unmarked : (x : ℕ) (b : Bool) → x ≡ 0 → false ≡ (0 <? x and b)
 unfolding _<?_ _and_
@@ -14,3 +18,13 @@ unmarked x b e = rw e
 pub marked-test : (x : ℕ) (b : Bool) → (x ≡ 0 → ⊥) → b ≡ (0 <? x and b)
 unfolding _<?_ _and_
 marked-test x b f = rw (lt-ltb 0 x (pos-of-ne-zero f))
+
+-- the first n of 128 marks 1, as a part of their array
+take-replicate : (n k a : ℕ) → n ≤ k → take n (replicate k a) ≡ replicate n a
+take-replicate zero k a h = refl
+take-replicate (suc n) zero a h = absurd (not-suc-le-zero h)
+take-replicate (suc n) (suc k) a h = ap (λ (l : List ℕ). a ∷ l) (take-replicate n k a (omega arith))
+
+pub all-kept-part : (n : ℕ) (marks : List ℕ) → n ≤ 128 → marks ≡ replicate 128 1 → take (n - 0) (drop 0 marks) ≡ keepAll n
+unfolding keepAll
+all-kept-part n marks h e = ap₂ (λ (k : ℕ) (l : List ℕ). take k l) (sub-zero n) e ∙ take-replicate n 128 1 h

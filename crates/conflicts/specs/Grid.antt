@@ -3,7 +3,7 @@
 use Prim.Native.Nat.{ℕ, _+_, _*_}
 use mathlib.Core.Bool.{Bool}
 use mathlib.Core.List.{List}
-use lib.ListN.{getD}
+use lib.ListN.{length, getD}
 use Rattle.records.specs.Below.{_==_, _and_, _or_, isnt, allBelow, anyBelow, countBelow}
 use Rattle.records.specs.Record.{isCall, codeAt}
 use Rattle.records.specs.Table.{fragments, recordAt}
@@ -20,7 +20,7 @@ pub record Grid : Type 0 where
 unfoldable pub gridOf : ℕ → List ℕ → Grid
 gridOf n table = record { m = fragments table; n = n; cell = λ i c. codeAt (recordAt table i) c }
 
--- the matrix of a flat list of cells, 128 to a fragment
+-- the matrix of a flat list of cells, 128 to a fragment; it has at most 128 columns wherever it is used (`Matrix`)
 unfoldable pub matrixGrid : ℕ → ℕ → List ℕ → Grid
 matrixGrid m n cells = record { m = m; n = n; cell = λ i c. getD cells (i * 128 + c) 0 }
 
@@ -47,6 +47,10 @@ agree g i j = isnt (conflict g i j)
 -- two fragments conflict on a kept column
 unfoldable pub conflictOnKept : Grid → List ℕ → ℕ → ℕ → Bool
 conflictOnKept g keepCols i j = anyBelow (g .n) (λ c. marked keepCols c and conflictOn g c i j)
+
+-- two fragments, each a row of cells, conflict on a kept column; past the end of a row there is a hole
+unfoldable pub rowsConflict : List ℕ → List ℕ → List ℕ → Bool
+rowsConflict keepCols first second = anyBelow (length keepCols) (λ c. marked keepCols c and callsConflict (getD first c 0) (getD second c 0))
 
 -- "a column is mixed if both A and B occur in it"
 unfoldable pub mixed : Grid → ℕ → Bool

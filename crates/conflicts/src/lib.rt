@@ -1,10 +1,9 @@
 // The conflict rules of paper 001, section 3: the tally of a column, and conflicts of calls and of fragments.
 ghost use mathlib.Core.Path.{_≡_};
-ghost use Prim.Native.Nat.{ℕ, _+_, _*_};
 ghost use lib.ListN.{getD};
 ghost use Rattle.records.specs.Below.{_and_};
 ghost use Rattle.conflicts.specs.Choice.{marked};
-ghost use Rattle.conflicts.specs.Grid.{callsConflict, matrixGrid, conflictOnKept};
+ghost use Rattle.conflicts.specs.Grid.{callsConflict, rowsConflict};
 ghost use Rattle.conflicts.specs.Tally.{noCalls, oneMore, tallied, mixedTally};
 use records::byte;
 
@@ -71,38 +70,23 @@ pub fn calls_conflict(x: u8, y: u8) -> bool
     false
 }
 
-// The cell of a fragment at a column, where each fragment has 128 cells, and 0 past the end.
-fn cell_at(cells: &[u8], i: usize, c: usize) -> u8
-    ensures { λ r. ⌜ r ≡ getD (now (cells .entry)) (i * 128 + c) 0 ⌝ }
-{
-    let rows = cells.len() / 128;
-    if rows < i {
-        return 0;
-    }
-    let start = i * 128;
-    if c < cells.len() - start {
-        return cells[start + c];
-    }
-    0
-}
-
-// Fragments i and j conflict on kept column c.
-fn conflict_at(cells: &[u8], marks: &[u8], i: usize, j: usize, c: usize) -> bool
-    ensures { λ r. ⌜ r ≡ (marked (now (marks .entry)) c and callsConflict (getD (now (cells .entry)) (i * 128 + c) 0) (getD (now (cells .entry)) (j * 128 + c) 0)) ⌝ }
+// Two rows of cells conflict on kept column c. A row that has no cell there has a hole, and a column without a keep mark is not kept.
+fn conflict_at(first: &[u8], second: &[u8], marks: &[u8], c: usize) -> bool
+    ensures { λ r. ⌜ r ≡ (marked (now (marks .entry)) c and callsConflict (getD (now (first .entry)) c 0) (getD (now (second .entry)) c 0)) ⌝ }
 {
     if byte(marks, c) == 0 {
         return false;
     }
-    calls_conflict(cell_at(cells, i, c), cell_at(cells, j, c))
+    calls_conflict(byte(first, c), byte(second, c))
 }
 
-// Fragments i and j of a cell matrix, 128 cells to a fragment, conflict on one of the first n columns that is kept.
-pub fn fragments_conflict(n: usize, cells: &[u8], marks: &[u8], i: usize, j: usize) -> bool
-    ensures { λ r. ⌜ ((m : ℕ) → r ≡ conflictOnKept (matrixGrid m n (now (cells .entry))) (now (marks .entry)) i j) ⌝ }
+// Two fragments, each a row of cells as unpack writes them, conflict on a column that has a keep mark over 0.
+pub fn fragments_conflict(first: &[u8], second: &[u8], marks: &[u8]) -> bool
+    ensures { λ r. ⌜ r ≡ rowsConflict (now (marks .entry)) (now (first .entry)) (now (second .entry)) ⌝ }
 {
     let mut c = 0;
-    while c < n {
-        if conflict_at(cells, marks, i, j, c) {
+    while c < marks.len() {
+        if conflict_at(first, second, marks, c) {
             return true;
         }
         c += 1;

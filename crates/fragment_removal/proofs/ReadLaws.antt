@@ -14,8 +14,9 @@ use Rattle.records.proofs.BelowLaws.{any-ext, is-true, length-tab, getD-tab}
 use Rattle.records.proofs.ExtentLaws.{endBelow-le}
 use Rattle.records.proofs.ScanLaws.{start-le-end}
 use Rattle.conflicts.specs.Choice.{marked, keepAll}
-use Rattle.conflicts.specs.Grid.{Grid, agree, conflict, conflictOn, conflictOnKept, matrixGrid}
-use Rattle.conflicts.proofs.SideLaws.{kept-all}
+use Rattle.conflicts.specs.Grid.{Grid, agree, conflict, conflictOn, conflictOnKept, rowsConflict, matrixGrid}
+use Rattle.conflicts.proofs.SideLaws.{kept-all, all-length}
+use Rattle.conflicts.proofs.GridLaws.{rows-conflict}
 use Rattle.fragment_removal.specs.Fragments.{start, reach, Cleared}
 use Rattle.fragment_removal.specs.Programme.{stateReach, mayJoin}
 
@@ -69,13 +70,15 @@ module _ (n : ℕ) (cells : List ℕ) (p k r : ℕ) (e : k ≡ n) (inside : p * 
   unfolding reach matrixGrid
   reach-read is = let e = part-read callsEnd (callsEnd-same n) is in (λ m. e, subst (λ (x : ℕ). x ≤ n) (sym e) (reach-within (matrixGrid 0 n cells) p))
 
--- with 128 columns kept, conflicts on kept columns are conflicts
-pub conflict-kept : (g : Grid) (p q : ℕ) → g .n ≤ 128 → conflictOnKept g (replicate 128 1) p q ≡ conflict g p q
-unfolding conflictOnKept conflict keepAll _and_
-conflict-kept g p q small = any-ext (g .n) _ _ (λ c l. ap (λ (b : Bool). b and conflictOn g c p q) (kept c (omega arith)))
-  where
-    kept : (c : ℕ) → c < 128 → marked (replicate 128 1) c ≡ true
-    kept c l = sym (is-true _ (kept-all 128 c l))
+-- the rows of two fragments, as parts of the cells, with every column kept
+pub conflict-read : (n : ℕ) (cells marks : List ℕ) (p q k l : ℕ) {b : Bool} → k ≡ n → l ≡ n → marks ≡ keepAll n → b ≡ rowsConflict marks (take k (drop (p * 128) cells)) (take l (drop (q * 128) cells))
+    → (m : ℕ) → b ≡ conflict (matrixGrid m n cells) p q
+unfolding conflictOnKept conflict matrixGrid _and_
+conflict-read n cells marks p q k l ek el kept is m =
+    let row : (r x : ℕ) → x ≡ n → (c : ℕ) → c < n → getD (take x (drop (r * 128) cells)) c 0 ≡ getD cells (r * 128 + c) 0 = λ r x e c h. getD-take x (drop (r * 128) cells) c 0 (omega arith) ∙ getD-drop (r * 128) cells c 0 in
+    is
+    ∙ rows-conflict (matrixGrid m n cells) marks _ _ p q (ap length kept ∙ all-length n) (row p k ek) (row q l el)
+    ∙ any-ext n _ _ (λ c h. ap (λ (b : Bool). b and conflictOn (matrixGrid m n cells) c p q) (ap (λ (x : List ℕ). marked x c) kept ∙ sym (is-true _ (kept-all n c h))))
 
 -- ---- a side's state
 
@@ -102,10 +105,10 @@ module _ (g : Grid) (order : ℕ → ℕ) (s : ℕ) where
   unfolding mayJoin
   join-none i e = rw e
 
-  module _ (i p q : ℕ) (h : 0 < s) (ep : p ≡ order (s - 1)) (eq : q ≡ order i) (small : g .n ≤ 128) {b : Bool} (is : b ≡ conflictOnKept g (replicate 128 1) p q) where
+  module _ (i p q : ℕ) (h : 0 < s) (ep : p ≡ order (s - 1)) (eq : q ≡ order i) {b : Bool} (is : b ≡ conflict g p q) where
     joined : mayJoin g order s i ≡ isnt b
     unfolding agree
-    joined = opened-join g order s i h ∙ ap isnt (sym (is ∙ conflict-kept g p q small ∙ ap₂ (conflict g) ep eq))
+    joined = opened-join g order s i h ∙ ap isnt (sym (is ∙ ap₂ (conflict g) ep eq))
 
     pub join-no : b ≡ true → 0 ≡ bit (mayJoin g order s i)
     unfolding isnt

@@ -6,7 +6,7 @@ ghost use mathlib.Core.Path.{_≡_};
 ghost use Prim.Native.Nat.{ℕ, _+_, _<_, _≤_};
 ghost use lib.ListN.{length};
 ghost use Rattle.records.specs.Below.{bit};
-ghost use Rattle.conflicts.specs.Grid.{matrixGrid};
+ghost use Rattle.conflicts.specs.Grid.{matrixGrid, conflict};
 ghost use Rattle.fragment_removal.specs.Fragments.{start, reach, Begins, Positions, entries};
 ghost use Rattle.conflicts.specs.Matrix.{Matrix};
 ghost use Rattle.fragment_removal.specs.Programme.{stateReach, mayJoin};
@@ -75,6 +75,21 @@ pub(crate) fn fill_reaches(m: usize, n: usize, cells: &[u8], order: &[u8], reach
     }
 }
 
+// Whether the fragments at positions p and q conflict.
+fn positions_conflict(n: usize, cells: &[u8], p: usize, q: usize) -> bool
+    requires { ⌜ (length (now cells) ≡ 16384) × (n ≤ 128) × (p < 128) × (q < 128) ⌝ }
+    ensures { λ r. ⌜ ((m : ℕ) → r ≡ conflict (matrixGrid m n (now (cells .entry))) p q) ⌝ }
+{
+    let all = [1u8; 128];
+    let first = p * 128;
+    let second = q * 128;
+    fragments_conflict(
+        &cells[first..first + n],
+        &cells[second..second + n],
+        &all[0..n],
+    )
+}
+
 // 1 where the fragment at place i agrees with a side's state, and 0 where not.
 fn may_join(m: usize, n: usize, cells: &[u8], order: &[u8], s: usize, i: usize) -> u8
     requires { ⌜ Matrix m n (now cells) × Positions m (now order) × (s ≤ i) × (i < m) ⌝ }
@@ -83,10 +98,9 @@ fn may_join(m: usize, n: usize, cells: &[u8], order: &[u8], s: usize, i: usize) 
     if s == 0 {
         return 1;
     }
-    let all = [1u8; 128];
     let kept = wide(order[s - 1]);
     let next = wide(order[i]);
-    if fragments_conflict(n, cells, &all, kept, next) {
+    if positions_conflict(n, cells, kept, next) {
         return 0;
     }
     1

@@ -3,10 +3,9 @@
 use mathlib.Core.Path.{_≡_, refl, sym, ap, ap₂, subst, _∙_}
 use mathlib.Core.Bool.{Bool, true, false}
 use mathlib.Core.List.{List, [], _∷_}
-use Prim.Native.Nat.{ℕ, zero, suc, _-_, _≤_}
+use Prim.Native.Nat.{ℕ, zero, suc}
 use native.Mathlib.Omega.{arith}
-use lib.ListN.{length, replicate, take, drop, length-replicate}
-use native.Mathlib.Nat.{not-suc-le-zero, sub-zero}
+use lib.ListN.{length}
 use Rattle.records.specs.Below.{if_then_else_, concat}
 use Rattle.records.specs.Table.{fragments}
 use Rattle.records.specs.Outcome.{Verdict, accepted, refused}
@@ -27,22 +26,6 @@ use Rattle.conflicts.proofs.GridLaws.{classes-agree}
 use Rattle.haplotypes.specs.Sizes.{Sized}
 use Rattle.haplotypes.specs.Meanings.{CheckSays}
 use Rattle.haplotypes.proofs.SizeLaws.{sized-count, sized-n, sized-m}
-
--- ---- keep marks
-
-take-replicate : (n k a : ℕ) → n ≤ k → take n (replicate k a) ≡ replicate n a
-take-replicate zero k a h = refl
-take-replicate (suc n) zero a h = absurd (not-suc-le-zero h)
-take-replicate (suc n) (suc k) a h = ap (λ (l : List ℕ). a ∷ l) (take-replicate n k a (omega arith))
-
--- the first n of 128 marks 1, as a part of their array
-pub all-kept-part : (n : ℕ) (marks : List ℕ) → n ≤ 128 → marks ≡ replicate 128 1 → take (n - 0) (drop 0 marks) ≡ keepAll n
-unfolding keepAll
-all-kept-part n marks h e = ap₂ (λ (k : ℕ) (l : List ℕ). take k l) (sub-zero n) e ∙ take-replicate n 128 1 h
-
-pub length-keepAll : (n : ℕ) → length (keepAll n) ≡ n
-unfolding keepAll
-length-keepAll n = length-replicate n 1
 
 -- ---- the cell matrix
 

@@ -39,7 +39,7 @@ use Rattle.haplotypes.specs.Sizes.{Sized, RecordsKept, CorrectionKept, l
 use Rattle.haplotypes.specs.Meanings.{CorrectionSays}
 use Rattle.haplotypes.specs.Rewriting.{rowIn, TwoBits, rewrittenTable}
 use Rattle.haplotypes.proofs.SizeLaws.{sized-count, sized-n, sized-m}
-use Rattle.haplotypes.proofs.CheckLaws.{length-keepAll}
+use Rattle.conflicts.proofs.SideLaws.{all-length}
 use Rattle.haplotypes.proofs.TableRemovalLaws.{few, grid-is, table-gapless}
 
 first-same : (n : ℕ) (p q : ℕ → Bool) → ((c : ℕ) → c < n → p c ≡ q c) → firstBelow n p ≡ firstBelow n q
@@ -102,7 +102,7 @@ module _ {n m : ℕ} {table cells : List ℕ} (sized : Sized n m table) (kept : 
         few = sized-m sized;
         narrow = sized-n sized;
         cells-long = ap length turned ∙ length-tab 16384 _;
-        columns = ap length all ∙ length-keepAll n;
+        columns = ap length all ∙ all-length n;
         fragments = table-sides .size;
       }
 

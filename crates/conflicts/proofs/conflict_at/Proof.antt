@@ -1,7 +1,6 @@
 -- `conflicts::conflict_at` meets its contract.
 -- Assumes nothing.
 use mathlib.Core.Path.{sym, ap₂, _∙_}
-use Prim.Native.Nat.{_+_, _*_}
 use lib.ListN.{getD}
 use borrow.Author.Needs.{needs}
 use Rattle.conflicts.specs.Choice.{marked}
@@ -17,11 +16,11 @@ returns : tie.Need-returns
 unfolding marked
 returns c = unmarked _ _ (sym (c .before .byte .ensures) ∙ c .if1 .taken)
 
-cell-at-requires : tie.Need-cell-at-requires
-cell-at-requires c κs = search needs
+byte-requires-2 : tie.Need-byte-requires-2
+byte-requires-2 c κs = search needs
 
-cell-at-requires-2 : tie.Need-cell-at-requires-2
-cell-at-requires-2 c κs = search needs
+byte-requires-3 : tie.Need-byte-requires-3
+byte-requires-3 c κs = search needs
 
 calls-conflict-requires : tie.Need-calls-conflict-requires
 calls-conflict-requires c κs = search needs
@@ -29,10 +28,10 @@ calls-conflict-requires c κs = search needs
 returns-2 : tie.Need-returns-2
 unfolding marked
 returns-2 c =
-    let a = c .before .before .before .before .before .before .before .args in
-    let b = callsConflict (getD (a .cells .now) (a .i * 128 + a .c) 0) (getD (a .cells .now) (a .j * 128 + a .c) 0) in
+    let a = c .before .before .before .before .before .before .before .before .args in
+    let b = callsConflict (getD (a .first .now) (a .c) 0) (getD (a .second .now) (a .c) 0) in
     c .calls-conflict .ensures
-    ∙ ap₂ callsConflict (c .before .before .cell-at .ensures) (c .before .cell-at2 .ensures)
+    ∙ ap₂ callsConflict (c .before .before .byte2 .ensures) (c .before .byte3 .ensures)
     ∙ marked-test (getD (a .marks .now) (a .c) 0) b (λ e. c .before .before .before .if1 .left (c .before .before .before .before .byte .ensures ∙ e))
 
 pub conflict-at-spec : {M : Type 1} → statement M
@@ -41,7 +40,7 @@ conflict-at-spec =
     (tie.spec
     byte-requires
     returns
-    cell-at-requires
-    cell-at-requires-2
+    byte-requires-2
+    byte-requires-3
     calls-conflict-requires
     returns-2)

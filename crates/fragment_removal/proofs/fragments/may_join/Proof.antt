@@ -1,5 +1,6 @@
 -- `fragments::may_join` meets its contract.
 -- Assumes nothing.
+use Prim.Native.Nat.{_-_}
 use native.Mathlib.Omega.{arith}
 use borrow.Author.Needs.{needs}
 use Rattle.conflicts.specs.Grid.{matrixGrid}
@@ -26,25 +27,30 @@ shared-slice-read-wide-2 c = let s = c .before .before .before .before .before .
 wide-requires-2 : tie.Need-wide-requires-2
 wide-requires-2 c κs = search needs
 
-slice-aggregate-fragments-conflict : tie.Need-slice-aggregate-fragments-conflict
-slice-aggregate-fragments-conflict c = search needs
-
-fragments-conflict-requires : tie.Need-fragments-conflict-requires
-fragments-conflict-requires c κs = search needs
+positions-conflict-requires : tie.Need-positions-conflict-requires
+positions-conflict-requires c κs =
+    let s = c .before .before .before .before .before .before .before in
+    let low = s .pre .1 .below in
+    let r = s .pre .0 .rows in
+    let left = low (s .args .s - 1) (omega arith) in
+    let right = low (s .args .i) (omega arith) in
+    let el = c .before .before .wide .ensures in
+    let er = c .wide2 .ensures in
+    (s .pre .0 .size, s .pre .0 .columns, omega arith, omega arith)
 
 returns-2 : tie.Need-returns-2
 unfolding matrixGrid
 returns-2 c =
-    let s = c .before .before .before .before .before .before .before .before .before .before in
+    let s = c .before .before .before .before .before .before .before .before .before in
     let a = s .args in
-    join-no (matrixGrid (a .m) (a .n) (a .cells .now)) (entries (a .order .now)) (a .s) (a .i) _ _ (omega arith) (c .before .before .before .before .before .wide .ensures) (c .before .before .before .wide2 .ensures) (s .pre .0 .columns) (c .before .fragments-conflict .ensures (s .args .m)) (c .if2 .taken)
+    join-no (matrixGrid (a .m) (a .n) (a .cells .now)) (entries (a .order .now)) (a .s) (a .i) _ _ (omega arith) (c .before .before .before .before .wide .ensures) (c .before .before .wide2 .ensures) (c .before .positions-conflict .ensures (a .m)) (c .if2 .taken)
 
 returns-3 : tie.Need-returns-3
 unfolding matrixGrid
 returns-3 c =
-    let s = c .before .before .before .before .before .before .before .before .before .before in
+    let s = c .before .before .before .before .before .before .before .before .before in
     let a = s .args in
-    join-yes (matrixGrid (a .m) (a .n) (a .cells .now)) (entries (a .order .now)) (a .s) (a .i) _ _ (omega arith) (c .before .before .before .before .before .wide .ensures) (c .before .before .before .wide2 .ensures) (s .pre .0 .columns) (c .before .fragments-conflict .ensures (s .args .m)) (c .if2 .left)
+    join-yes (matrixGrid (a .m) (a .n) (a .cells .now)) (entries (a .order .now)) (a .s) (a .i) _ _ (omega arith) (c .before .before .before .before .wide .ensures) (c .before .before .wide2 .ensures) (c .before .positions-conflict .ensures (a .m)) (c .if2 .left)
 
 pub may-join-spec : {M : Type 1} → statement M
 may-join-spec =
@@ -56,7 +62,6 @@ may-join-spec =
     wide-requires
     shared-slice-read-wide-2
     wide-requires-2
-    slice-aggregate-fragments-conflict
-    fragments-conflict-requires
+    positions-conflict-requires
     returns-2
     returns-3)

@@ -2,13 +2,14 @@
 -- Assumes nothing.
 use mathlib.Core.Path.{sym, _∙_}
 use Rattle.haplotypes.proofs.StageLaws.{correction-sized, correction-answer, correction-output, correction-kept}
+use Rattle.haplotypes.proofs.TableRemovalLaws.{table-matrix}
 use Rattle.haplotypes.proofs.TableCorrectionLaws.{table-deep, shallow-columns, correction-deep, correction-accepts}
 use borrow.Author.Needs.{needs}
 use Rattle.haplotypes.proofs.calls.correct_shallow.Statement.{statement}
 use Rattle.haplotypes.proofs.calls.correct_shallow.Tie as tie
 
 first-deep-requires : tie.Need-first-deep-requires
-first-deep-requires c κs = search needs
+first-deep-requires c κs = let s = c .before .before .before .before .before in let e = s .pre .0 .kept in table-matrix (correction-sized _ _ _ _ _ _ e) (correction-kept _ _ _ _ _ _ e) (s .pre .1)
 
 returns : tie.Need-returns
 returns c =

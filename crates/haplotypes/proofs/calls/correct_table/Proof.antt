@@ -5,7 +5,8 @@ use lib.ListN.{length, length-replicate}
 use mathlib.Core.Path.{sym, ap, _∙_}
 use native.Mathlib.Omega.{arith}
 use Rattle.haplotypes.proofs.SizeLaws.{sized-n, sized-m}
-use Rattle.haplotypes.proofs.CheckLaws.{all-kept-part, length-keepAll}
+use Rattle.conflicts.proofs.MarkLaws.{all-kept-part}
+use Rattle.conflicts.proofs.SideLaws.{all-length}
 use borrow.Author.Needs.{needs}
 use Rattle.haplotypes.proofs.calls.correct_table.Statement.{statement}
 use Rattle.haplotypes.proofs.calls.correct_table.Tie as tie
@@ -50,7 +51,7 @@ correct-calls-requires c κs =
         (
           s .pre .1 .1 .0,
           (
-            (ap length (all-kept-part (s .args .m) _ (sized-m sized) (c .before .before .before .before .before .before .before .all-kept2 .ensures)) ∙ length-keepAll (s .args .m), sym (c .before .before .before .before .before .before .blank-cells .ensures)),
+            (ap length (all-kept-part (s .args .m) _ (sized-m sized) (c .before .before .before .before .before .before .before .all-kept2 .ensures)) ∙ all-length (s .args .m), sym (c .before .before .before .before .before .before .blank-cells .ensures)),
             s .pre .1 .1 .1,
           ),
         ),

@@ -1,5 +1,7 @@
 use Prim.Native.Nat.{ℕ}
-use Rattle.haplotypes.proofs.CheckLaws.{length-cells, table-found, all-kept-part, length-keepAll}
+use Rattle.conflicts.proofs.MarkLaws.{all-kept-part}
+use Rattle.conflicts.proofs.SideLaws.{all-length}
+use Rattle.haplotypes.proofs.CheckLaws.{length-cells, table-found}
 use native.Mathlib.Omega.{arith}
 use lib.ListN.{length, length-replicate}
 use mathlib.Core.Path.{ap, _∙_}
@@ -52,8 +54,8 @@ phase-requires c κs =
         few = sized-m sized;
         narrow = sized-n sized;
         cells-long = ap length (c .before .before .before .before .before .before .before .fill-matrix .ensures) ∙ length-cells (a .n) (a .table .now);
-        columns = ap length (all-kept-part (a .n) _ (sized-n sized) (c .before .before .before .before .before .before .before .before .before .before .all-kept .ensures)) ∙ length-keepAll (a .n);
-        fragments = ap length (all-kept-part (a .m) _ (sized-m sized) (c .before .before .before .before .before .before .before .before .before .all-kept2 .ensures)) ∙ length-keepAll (a .m);
+        columns = ap length (all-kept-part (a .n) _ (sized-n sized) (c .before .before .before .before .before .before .before .before .before .before .all-kept .ensures)) ∙ all-length (a .n);
+        fragments = ap length (all-kept-part (a .m) _ (sized-m sized) (c .before .before .before .before .before .before .before .before .before .all-kept2 .ensures)) ∙ all-length (a .m);
       },
       c .before .before .before .before .before .before .before .before .before .before .before .before .before .before .pre .1,
     )

@@ -2,7 +2,7 @@ use lib.ListN.{length}
 use mathlib.Core.Path.{ap, _∙_}
 use Rattle.conflicts.specs.Choice.{zeros}
 use Rattle.haplotypes.proofs.SizeLaws.{sized-n, sized-m}
-use Rattle.haplotypes.proofs.CheckLaws.{length-keepAll}
+use Rattle.conflicts.proofs.SideLaws.{all-length}
 use Rattle.haplotypes.proofs.TableRemovalLaws.{table-matrix, table-gapless, table-fragments, table-fragment-answer}
 use native.Mathlib.Omega.{arith}
 use borrow.Author.Needs.{needs}
@@ -22,7 +22,7 @@ phase-requires c κs =
         few = sized-m (p .0);
         narrow = sized-n (p .0);
         cells-long = table-matrix (p .0) (p .1 .0) (p .1 .1 .0) .size;
-        columns = ap length (p .1 .1 .1 .0) ∙ length-keepAll (c .before .before .before .before .before .before .before .before .before .before .before .before .before .before .before .args .n);
+        columns = ap length (p .1 .1 .1 .0) ∙ all-length (c .before .before .before .before .before .before .before .before .before .before .before .before .before .before .before .args .n);
         fragments = c .before .before .before .before .before .before .fragment-keep-marks .kept .1 .1 .1 .1 .0 ∙ p .1 .1 .1 .1 .1 .0;
       },
       p .1 .1 .1 .1 .1 .1,

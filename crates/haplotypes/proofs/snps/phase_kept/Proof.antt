@@ -2,7 +2,7 @@ use lib.ListN.{length}
 use mathlib.Core.Path.{ap, _∙_}
 use Rattle.conflicts.specs.Choice.{zeros}
 use Rattle.haplotypes.proofs.SizeLaws.{sized-n, sized-m}
-use Rattle.haplotypes.proofs.CheckLaws.{length-keepAll}
+use Rattle.conflicts.proofs.SideLaws.{all-length}
 use Rattle.haplotypes.proofs.TableRemovalLaws.{table-matrix, table-gapless, table-marks, table-answer}
 use borrow.Author.Needs.{needs}
 use Rattle.haplotypes.proofs.snps.phase_kept.Statement.{statement}
@@ -19,7 +19,7 @@ phase-requires c κs =
         narrow = sized-n (p .0);
         cells-long = table-matrix (p .0) (p .1 .0) (p .1 .1 .0) .size;
         columns = c .before .before .before .before .snp-keep-marks .kept .1 .1 .1 .0 ∙ p .1 .1 .1 .1 .0;
-        fragments = ap length (p .1 .1 .1 .0) ∙ length-keepAll (c .before .before .before .before .before .before .before .before .before .before .before .args .m);
+        fragments = ap length (p .1 .1 .1 .0) ∙ all-length (c .before .before .before .before .before .before .before .before .before .before .before .args .m);
       },
       p .1 .1 .1 .1 .1,
     )

@@ -2,7 +2,8 @@ use Prim.Native.Nat.{ℕ}
 use lib.ListN.{length, length-replicate}
 use mathlib.Core.Path.{ap, _∙_}
 use Rattle.haplotypes.proofs.SizeLaws.{sized-n, sized-m}
-use Rattle.haplotypes.proofs.CheckLaws.{all-kept-part, length-keepAll}
+use Rattle.conflicts.proofs.MarkLaws.{all-kept-part}
+use Rattle.conflicts.proofs.SideLaws.{all-length}
 use native.Mathlib.Omega.{arith}
 use borrow.Author.Needs.{needs}
 use Rattle.haplotypes.proofs.snps.remove_snps.Statement.{statement}
@@ -55,7 +56,7 @@ phase-kept-requires c κs =
           c .before .before .before .before .before .before .fill-matrix .ensures,
           (
             all-kept-part (a .m) _ (sized-m (p .0)) (c .before .before .before .before .before .before .before .before .all-kept2 .ensures),
-            (ap length (all-kept-part (a .n) _ (sized-n (p .0)) (c .before .before .before .before .before .before .before .before .before .all-kept .ensures)) ∙ length-keepAll (a .n), p .1 .1),
+            (ap length (all-kept-part (a .n) _ (sized-n (p .0)) (c .before .before .before .before .before .before .before .before .before .all-kept .ensures)) ∙ all-length (a .n), p .1 .1),
           ),
         ),
       ),
