@@ -5,6 +5,8 @@ ghost use lib.ListN.{length, take};
 ghost use Rattle.records.specs.Outcome.{accepted};
 ghost use Rattle.listing.specs.Appended.{Appended};
 ghost use Rattle.listing.specs.Listing.{listed, listing};
+use input::read_input;
+use libc::STDERR_FILENO;
 use libc::STDIN_FILENO;
 use libc::STDOUT_FILENO;
 use lines::put_refusal;
@@ -18,6 +20,7 @@ use services::put_fragments;
 use services::put_snps;
 
 mod fields;
+mod input;
 mod lines;
 mod services;
 mod text;
@@ -50,10 +53,28 @@ fn fill_listing(table: &[u8], out: &mut [u8]) -> usize
     }
 }
 
+// One line on standard error. A failure to write it has nowhere to be told.
+fn report(message: &[u8]) {
+    io::write_all(STDERR_FILENO, message);
+}
+
+// Prints the listing of a table, or says that it could not.
+fn print_listing(table: &[u8]) {
+    let mut out = io::buffer();
+    let length = fill_listing(table, &mut out);
+    if !io::write_all(STDOUT_FILENO, &out[..length]) {
+        report(b"listing: cannot write to standard output\n");
+    }
+}
+
+// A table that could not be read whole is not answered.
 fn main() {
     let mut buffer = [0u8; 4128];
-    let got = io::read_full(STDIN_FILENO, &mut buffer);
-    let mut out = io::buffer();
-    let length = fill_listing(&buffer[..got], &mut out);
-    io::write_all(STDOUT_FILENO, &out[..length]);
+    let input = read_input(STDIN_FILENO, &mut buffer);
+    let count = input.count;
+    if input.whole {
+        print_listing(&buffer[..count]);
+    } else {
+        report(b"listing: cannot read standard input\n");
+    }
 }

@@ -1,54 +1,48 @@
+-- `main` meets its contract: it ends, and is safe.
+-- Assumes nothing.
 use lib.Seq.{length-take-le}
 use mathlib.Core.Path.{sym}
 use borrow.Author.Needs.{needs}
 use Rattle.listing.proofs.main.Statement.{statement}
 use Rattle.listing.proofs.main.Tie as tie
 
-slice-aggregate-read-full : tie.Need-slice-aggregate-read-full
-slice-aggregate-read-full c = search needs
+slice-aggregate-read-input : tie.Need-slice-aggregate-read-input
+slice-aggregate-read-input c = search needs
 
-read-full-requires : tie.Need-read-full-requires
-read-full-requires c κs = search needs
-
-buffer-requires : tie.Need-buffer-requires
-buffer-requires c κs = search needs
+read-input-requires : tie.Need-read-input-requires
+read-input-requires c κs = search needs
 
 array-share-prefix-buffer : tie.Need-array-share-prefix-buffer
 array-share-prefix-buffer c = search needs
 
-slice-aggregate-fill-listing : tie.Need-slice-aggregate-fill-listing
-slice-aggregate-fill-listing c = search needs
+slice-aggregate-print-listing : tie.Need-slice-aggregate-print-listing
+slice-aggregate-print-listing c = sym (length-take-le _ _ (c .before .before .before .read-input .ensures))
 
-slice-aggregate-fill-listing-2 : tie.Need-slice-aggregate-fill-listing-2
-slice-aggregate-fill-listing-2 c = search needs
+print-listing-requires : tie.Need-print-listing-requires
+print-listing-requires c κs = search needs
 
-fill-listing-requires : tie.Need-fill-listing-requires
-fill-listing-requires c κs = search needs
+slice-aggregate-report : tie.Need-slice-aggregate-report
+slice-aggregate-report c = search needs
 
-array-share-prefix-out : tie.Need-array-share-prefix-out
-array-share-prefix-out c = search needs
-
-slice-aggregate-write-all : tie.Need-slice-aggregate-write-all
-slice-aggregate-write-all c = sym (length-take-le _ _ (c .before .before .fill-listing .ensures .1))
-
-write-all-requires : tie.Need-write-all-requires
-write-all-requires c κs = search needs
+report-requires : tie.Need-report-requires
+report-requires c κs = search needs
 
 returns : tie.Need-returns
 returns c = search needs
+
+returns-2 : tie.Need-returns-2
+returns-2 c = search needs
 
 pub main-spec : {M : Type 1} → statement M
 main-spec =
     tie.close
     (tie.spec
-    slice-aggregate-read-full
-    read-full-requires
-    buffer-requires
+    slice-aggregate-read-input
+    read-input-requires
     array-share-prefix-buffer
-    slice-aggregate-fill-listing
-    slice-aggregate-fill-listing-2
-    fill-listing-requires
-    array-share-prefix-out
-    slice-aggregate-write-all
-    write-all-requires
-    returns)
+    slice-aggregate-print-listing
+    print-listing-requires
+    slice-aggregate-report
+    report-requires
+    returns
+    returns-2)
