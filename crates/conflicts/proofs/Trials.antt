@@ -6,7 +6,7 @@ use mathlib.Core.List.{List, [], _∷_, _++_}
 use Prim.Native.Nat.{ℕ, suc, _*_, _-_}
 use lib.Dec.{eqb}
 use lib.ListN.{length, replicate}
-use Rattle.records.specs.Below.{if_then_else_, _==_, _<?_, _≤?_, _and_, _or_, isnt, allBelow, anyBelow, sumBelow, countBelow, firstBelow, endBelow, tab, tabFrom, concat}
+use Rattle.records.specs.Below.{bit, if_then_else_, _==_, _<?_, _≤?_, _and_, _or_, isnt, allBelow, anyBelow, sumBelow, countBelow, firstBelow, endBelow, tab, tabFrom, concat}
 use Rattle.records.specs.Record.{littleEndian, tagOf, startOf, spanOf, byte7Of, isCall, cellOf, codeAt}
 use Rattle.records.specs.Table.{fragments, recordAt, partStart, partLength, position, unpackedCells, unpackedTags}
 use Rattle.records.specs.Writing.{bytesOf, cellBytes, callsEnd, callsStart, callsSpan, cut, laidOut, recordOf, rowOf, packed}
@@ -187,6 +187,10 @@ holed = frag 1 0 2 0x09 ++ frag 2 1 2 0x09 ++ frag 3 0 3 0x12
 deep : List ℕ
 deep = concat (tab 9 (λ i. frag i 1 1 0x01))
 
+-- 1 where all fragments of a table are error-free on the columns that these marks keep, else 0
+freeOn : ℕ → List ℕ → List ℕ → ℕ
+freeOn n table keepCols = bit (errorFree 2 (gridOf n table) keepCols (keepAll (fragments table)))
+
 -- a row of 97 cells: A first, this code next, and A last
 far : ℕ → List ℕ
 far code = 1 ∷ code ∷ replicate 94 0 ++ 1 ∷ []
@@ -249,6 +253,11 @@ trials =
     ∷ keeps (FOn 3 holed) (refused 8 2)
     ∷ keeps (COn 3 holed) (refused 8 2)
     ∷ keeps (pack 3 (1 ∷ 2 ∷ 0 ∷ 0 ∷ 1 ∷ 2 ∷ 2 ∷ 0 ∷ 1 ∷ []) (1 ∷ 2 ∷ 3 ∷ []) (nines 96)) (refused 8 2)
+    -- "document 000 shows three fragments that defeat this": judged by pairs of columns they are error-free, and they are not
+    ∷ equals (freeOn 3 holed (1 ∷ 1 ∷ 0 ∷ [])) 1
+    ∷ equals (freeOn 3 holed (1 ∷ 0 ∷ 1 ∷ [])) 1
+    ∷ equals (freeOn 3 holed (0 ∷ 1 ∷ 1 ∷ [])) 1
+    ∷ equals (freeOn 3 holed (keepAll 3)) 0
     -- a fragment without calls is kept by F, on side 1 by C, and a block by itself
     ∷ accepts (SOn 2 callless) 1 ((1 ∷ 0 ∷ 1 ∷ 3 ∷ 2 ∷ 3 ∷ 1 ∷ 1 ∷ 1 ∷ 2 ∷ 0 ∷ 1 ∷ 1 ∷ 1 ∷ []) ∷ [])
     ∷ accepts (FOn 2 callless) 1 ((1 ∷ 1 ∷ 1 ∷ 1 ∷ 1 ∷ 2 ∷ 1 ∷ 1 ∷ 2 ∷ 0 ∷ 0 ∷ 1 ∷ 1 ∷ 255 ∷ []) ∷ [])
@@ -336,7 +345,7 @@ trials =
     ∷ []
 
 pub all-pass : failing 0 trials ≡ []
-unfolding leaves workLeft lent sameVerdict sameList left passes failing nines work9 answer9 unpackOn checkOn SOn FOn COn filled made frag printed pair same three four lone edge callless apart bridged dangling inside plain unforced rarerA holed deep far trials
+unfolding leaves workLeft lent sameVerdict sameList left passes failing nines work9 answer9 unpackOn checkOn SOn FOn COn filled made frag printed pair same three four lone edge callless apart bridged dangling inside plain unforced rarerA holed deep freeOn far trials
     _==_ _<?_ _≤?_ _and_ _or_ isnt allBelow anyBelow sumBelow countBelow firstBelow endBelow tab tabFrom concat
     littleEndian tagOf startOf spanOf byte7Of isCall cellOf codeAt fragments recordAt partStart partLength position unpackedCells unpackedTags
     bytesOf cellBytes callsEnd callsStart callsSpan cut laidOut recordOf rowOf packed
