@@ -17,4 +17,5 @@ pub mod CorrectionLaws
 pub mod LeastCorrections
 pub mod CorrectedTableLaws
 pub mod CorrectionsMinimality
+pub mod TurningLaws
 pub mod Trials

@@ -10,4 +10,5 @@ pub mod Blocks
 pub mod Answer
 pub mod Phased
 pub mod Minimality
+pub mod Turning
 pub mod Services
