@@ -18,4 +18,6 @@ pub mod LeastCorrections
 pub mod CorrectedTableLaws
 pub mod CorrectionsMinimality
 pub mod TurningLaws
+pub mod DeepLaws
+pub mod AcceptedServices
 pub mod Trials

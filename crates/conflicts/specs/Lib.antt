@@ -12,3 +12,4 @@ pub mod Phased
 pub mod Minimality
 pub mod Turning
 pub mod Services
+pub mod Served

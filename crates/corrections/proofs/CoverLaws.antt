@@ -11,7 +11,7 @@ use Rattle.records.specs.Below.{if_then_else_, bit, sumBelow, countBelow, _==_,
 use Rattle.records.specs.Record.{isCall}
 use Rattle.records.specs.Rules.{gapIn}
 use Rattle.records.specs.Writing.{callsEnd}
-use Rattle.records.proofs.BelowLaws.{both, left-of, right-of, T-isnt, if-ind, ==-eq, eq-==, <?-lt, lt-<?, isnt-<?, ≤?-le, le-≤?, isnt-T, same-test, allBelow-at, anyBelow-of, sum-ext, sum-le, count-ext, firstBelow-le, firstBelow-at, firstBelow-least}
+use Rattle.records.proofs.BelowLaws.{both, left-of, right-of, T-isnt, if-ind, ==-eq, eq-==, <?-lt, lt-<?, ≤?-le, le-≤?, same-test, allBelow-at, anyBelow-of, sum-ext, sum-le, count-ext, firstBelow-le, firstBelow-at, firstBelow-least}
 use Rattle.records.proofs.ExtentLaws.{endBelow-le, endBelow-at, endBelow-past, call-of, call-range}
 use Rattle.conflicts.specs.Grid.{Grid, gapless, depth}
 use Rattle.conflicts.specs.Corrections.{correctionCost, sidePrice}
@@ -19,6 +19,7 @@ use Rattle.events.specs.Weights.{columnWeight}
 use Rattle.events.proofs.EventLaws.{Local, local-weight}
 use Rattle.events.proofs.ColumnLaws.{Starts}
 use Rattle.corrections.specs.Columns.{startOf, endOf, covers, coverage, Shallow, letterCount, columnCost, firstDeep}
+use Rattle.corrections.proofs.DepthLaws.{first-none}
 
 module _ (g : Grid) where
   -- ---- covers
@@ -134,7 +135,4 @@ module _ (g : Grid) where
 
   -- a gapless table without a column of more than 8 calls is shallow
   pub not-deep : T (gapless g) → ((i c : ℕ) → i < g .m → c < g .n → g .cell i c ≤ 2) → firstDeep g ≡ g .n → Shallow g
-  unfolding firstDeep
-  not-deep whole codes e = record {
-    shallow = λ c lt. le-trans (le-of-eq (gapless-coverage whole codes c lt)) (isnt-<? 8 (depth g c) (isnt-T _ (λ t. let q = firstBelow-least (g .n) (λ c. 8 <? depth g c) c lt t in omega arith)));
-  }
+  not-deep whole codes e = record { shallow = λ c lt. le-trans (le-of-eq (gapless-coverage whole codes c lt)) (first-none g e .shallow c lt) }

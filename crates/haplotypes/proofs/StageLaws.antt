@@ -9,26 +9,22 @@ use Rattle.records.specs.Below.{concat}
 use Rattle.records.specs.Table.{fragments}
 use Rattle.records.specs.Outcome.{Verdict, accepted, refused}
 use Rattle.records.specs.Rules.{Rule, decide, sizeRules, tableRules}
-use Rattle.records.proofs.SearchLaws.{<?-true, <?-false}
-use Rattle.records.proofs.BelowLaws.{is-true, is-false, eq-==, ==-eq, ne-isnt, isnt-isnt, isnt-<?, T-isnt-isnt}
-use Rattle.records.proofs.RuleLaws.{rule-broken, rule-kept, decide-none, stage-kept, stage-refused, stage-last, stages-kept, stages-refused, accepted-count, accepted-stage, unbroken}
+use Rattle.records.proofs.SearchLaws.{<?-true}
+use Rattle.records.proofs.BelowLaws.{is-true, ==-eq, ne-isnt, isnt-isnt, isnt-<?}
+use Rattle.records.proofs.RuleLaws.{rule-broken, decide-none, stage-kept, stage-refused, stage-last, stages-kept, stages-refused, accepted-count, accepted-stage, unbroken}
 use Rattle.records.proofs.AcceptedLaws.{whole-records}
 use Rattle.records.proofs.TableLaws.{length-whole}
 use Rattle.conflicts.specs.Answer.{answerSize}
 use Rattle.conflicts.specs.Services.{lengthRule, workRules, removalRules}
+use Rattle.conflicts.proofs.AcceptedServices.{length-kept, work-kept}
 use Rattle.haplotypes.specs.Sizes.{Sized, RecordsKept, lentStages, correctionStages}
 use Rattle.haplotypes.proofs.SizeLaws.{sized-count}
 
--- ---- a length that is exact or not
+-- ---- a length that is not exact, and one that is
 
-module _ (output : List ℕ) (exact : ℕ) (v : Verdict) where
-  pub length-broken : (rest : List Rule) → (length output ≡ exact → ⊥) → decide (lengthRule output exact ∷ rest) v ≡ refused 11 0
-  unfolding lengthRule
-  length-broken rest f = rule-broken _ rest v (sym (is-true _ (ne-isnt _ _ f)))
-
-  pub length-kept : (rest : List Rule) → length output ≡ exact → decide (lengthRule output exact ∷ rest) v ≡ decide rest v
-  unfolding lengthRule
-  length-kept rest e = rule-kept _ rest v (sym (is-false _ (T-isnt-isnt _ (eq-== _ _ e))))
+pub length-broken : (output : List ℕ) (exact : ℕ) (v : Verdict) (rest : List Rule) → (length output ≡ exact → ⊥) → decide (lengthRule output exact ∷ rest) v ≡ refused 11 0
+unfolding lengthRule
+length-broken output exact v rest f = rule-broken _ rest v (sym (is-true _ (ne-isnt _ _ f)))
 
 pub exact-length : (output : List ℕ) (exact j k : ℕ) → decide (lengthRule output exact ∷ []) (accepted j) ≡ accepted k → length output ≡ exact
 unfolding lengthRule
@@ -51,8 +47,7 @@ module _ (n : ℕ) (table answer work : List ℕ) where
     lent-work v h = after-sizes v ∙ stage-refused _ _ 0 v 10 0 (rule-broken _ _ _ (<?-true _ _ h))
 
     after-work : (v : Verdict) → 32768 ≤ length work → decide (concat (lentStages n table answer work)) v ≡ decide (lengthRule answer (answerSize (fragments table) n) ∷ []) v
-    unfolding workRules
-    after-work v h = after-sizes v ∙ stage-kept _ _ 0 v 0 (rule-kept _ _ _ (<?-false _ _ h) ∙ decide-none _) ∙ stage-last _ v
+    after-work v h = after-sizes v ∙ stage-kept _ _ 0 v 0 (work-kept work _ h) ∙ stage-last _ v
 
     size-is : answerSize (fragments table) n ≡ answerSize m n
     size-is = ap (λ (k : ℕ). answerSize k n) (sized-count sized)

@@ -27,13 +27,14 @@ use Rattle.conflicts.proofs.SameLaws.{answer-cells}
 use Rattle.conflicts.proofs.LeastCorrections.{least-length, least-on}
 use Rattle.conflicts.proofs.CorrectedTableLaws.{rewritten-same, corrected-small}
 use Rattle.conflicts.proofs.CorrectionsMinimality.{changed-number, corrections-accepted}
+use Rattle.conflicts.proofs.DeepLaws.{deep-refused, deep-kept}
 use Rattle.phasing.specs.Cells.{tableCells, Sized as Phasable}
 use Rattle.phasing.proofs.TableLaws.{cells-same, cells-cost, cells-leastCostSides, cells-depth, cells-correctionAnswer}
 use Rattle.phasing.proofs.AlikeLaws.{correctedCell-cells}
 use Rattle.corrections.specs.Columns.{Shallow, firstDeep}
 use Rattle.corrections.specs.Letters.{OnSides, correctedCells}
+use Rattle.corrections.proofs.DepthLaws.{first-deep, first-none}
 use Rattle.corrections.proofs.CoverLaws.{not-deep}
-use Rattle.corrections.proofs.DepthLaws.{deep-refused, deep-kept}
 use Rattle.corrections.proofs.LetterLaws.{corrected-cell, corrected-two-bits}
 use Rattle.haplotypes.specs.Sizes.{Sized, RecordsKept, CorrectionKept, lentStages, correctionStages}
 use Rattle.haplotypes.specs.Meanings.{CorrectionSays}
@@ -172,14 +173,14 @@ module _ (n : ℕ) (table lent output work : List ℕ) where
 
     pub correction-deep : {deep : ℕ} → deep ≡ firstDeep (gridOf n table) → deep < n → CorrectionLeft (refused 12 deep) work lent output
     unfolding correctionsLeaves gridOf
-    correction-deep e h = left-at _ (after-stages _ ∙ deep-refused (gridOf n table) _ (rw (sym e) h) ∙ ap (refused 12) (sym e))
+    correction-deep e h = left-at _ (after-stages _ ∙ deep-refused (gridOf n table) _ (first-deep (gridOf n table) (rw (sym e) h)) ∙ ap (refused 12) (sym e))
 
     -- every rule is kept, and the work is done
     pub correction-accepts : firstDeep (gridOf n table) ≡ n → {k : ℕ} {w a t : List ℕ} → k ≡ changedCells (gridOf n table) (gridOf n (correctedTable n table)) → w ≡ replicate (length work) 0
         → a ≡ correctionAnswer (gridOf n table) → t ≡ correctedTable n table → CorrectionLeft (accepted k) w a t
     unfolding correctionsLeaves gridOf
     correction-accepts e i j l o =
-        let left = left-at _ (after-stages _ ∙ deep-kept (gridOf n table) _ e) in
+        let left = left-at _ (after-stages _ ∙ deep-kept (gridOf n table) _ (first-none (gridOf n table) e)) in
         (ap accepted i ∙ left .0, (j ∙ left .1 .0, (l ∙ left .1 .1 .0, o ∙ left .1 .1 .1)))
 
   -- what the contract's equations mean. A slice's bytes are below 256
