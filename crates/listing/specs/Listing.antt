@@ -94,7 +94,7 @@ refusal number place = refusedWord ∷ decimal number ∷ atWord ∷ decimal pla
 unfoldable pub sizesLine : ℕ → ℕ → List ℕ
 sizesLine m n = line (fragmentsWord ∷ decimal m ∷ snpsWord ∷ decimal n ∷ [])
 
--- the second line "ends in `yes` for an error-free table": check's count is 0 for yes. Check refuses no table that is accepted
+-- the second line "ends in `yes` for an error-free table": check's count is 0 for yes. Check refuses no table that is accepted (`ServicesSay` in Lines), so `no` is check's (`LinesSay`)
 unfoldable pub errorFreeLine : Verdict → List ℕ
 errorFreeLine (accepted zero) = line (errorFreeWord ∷ yesWord ∷ [])
 errorFreeLine (accepted (suc count)) = line (errorFreeWord ∷ noWord ∷ [])

@@ -37,7 +37,7 @@ pub(crate) fn put_sizes(m: usize, n: usize, out: &mut [u8], at: usize) -> usize
     put_byte(b'\n', out, d)
 }
 
-// The second line, from what check says: it refuses no table that is accepted.
+// The second line, from what check says: it refuses no table that is accepted (`services-say` in proofs/LineMeanings).
 pub(crate) fn put_error_free(outcome: Outcome, out: &mut [u8], at: usize) -> usize
     requires { ⌜ at + 60 ≤ length (now out) ⌝ }
     ensures appended { λ r. ⌜ Appended (errorFreeLine (outcomeOf outcome)) at (now (out .entry)) r (now (out .exit)) ⌝ }
