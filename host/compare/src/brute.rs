@@ -4,21 +4,11 @@
 //! A choice over k things is a number below 2^k. Thing 0 is its highest bit, so that the order of the numbers is the
 //! paper's order: at the first thing where two choices differ, bit 0 (kept, or side 1) comes first.
 
-use crate::answer::{haplotypes, Answer, Answers, REMOVED_FRAGMENT};
+use crate::answer::{haplotypes, Answer, REMOVED_FRAGMENT};
 use crate::record::{Matrix, A, B, HOLE};
-use crate::rules::too_deep;
 
 /// Above this many columns or fragments the choices are too many.
 pub const MOST_THINGS: usize = 12;
-
-pub fn answers(matrix: &Matrix) -> Answers {
-    Answers {
-        check: check(matrix),
-        snps: least_snp_removal(matrix),
-        fragments: least_fragment_removal(matrix),
-        corrections: too_deep(matrix).map_or_else(|| Ok(least_corrections(matrix)), Err),
-    }
-}
 
 /// The table's first lawful side list, if it has one.
 pub fn check(matrix: &Matrix) -> Option<Answer> {
@@ -27,19 +17,19 @@ pub fn check(matrix: &Matrix) -> Option<Answer> {
     first_sides(matrix, &keep, &kept).map(|sides| phased(matrix, 0, keep, sides))
 }
 
-fn least_snp_removal(matrix: &Matrix) -> Answer {
+pub fn least_snp_removal(matrix: &Matrix) -> Answer {
     let kept = vec![true; matrix.m()];
     let (count, keep, sides) = first_least(matrix.n, |keep| first_sides(matrix, keep, &kept));
     phased(matrix, count, keep, sides)
 }
 
-fn least_fragment_removal(matrix: &Matrix) -> Answer {
+pub fn least_fragment_removal(matrix: &Matrix) -> Answer {
     let keep = vec![true; matrix.n];
     let (count, _, sides) = first_least(matrix.m(), |kept| first_sides(matrix, &keep, kept));
     phased(matrix, count, keep, sides)
 }
 
-fn least_corrections(matrix: &Matrix) -> Answer {
+pub fn least_corrections(matrix: &Matrix) -> Answer {
     let kept = vec![true; matrix.m()];
     let mut best: Option<(usize, Vec<u8>)> = None;
     for choice in 0..1u64 << matrix.m() {

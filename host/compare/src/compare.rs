@@ -2,7 +2,6 @@
 
 use crate::expected::{self, Outcome};
 use crate::library;
-use crate::listing::MOST_BYTES;
 use crate::record::{column_count, RECORD};
 use crate::rng::Rng;
 use crate::rules::MOST_COLUMNS;
@@ -18,9 +17,10 @@ pub struct Compared {
 }
 
 pub fn table(bytes: &[u8], listing: Option<&Path>, rng: &mut Rng) -> Result<Compared, String> {
-    let outcome = expected::outcome(&bytes[..bytes.len().min(MOST_BYTES)])?;
+    let outcome = expected::outcome(bytes)?;
     let mut compared = Compared { outcome, listings: 0, in_pieces: 0, check_calls: 0 };
-    if let (Some(program), Some(text)) = (listing, expected::text(&compared.outcome)) {
+    if let Some(program) = listing {
+        let text = expected::text(&compared.outcome);
         listing_says(program, bytes, &text)?;
         compared.listings += 1;
         if rng.chance(8) {
@@ -65,7 +65,7 @@ fn check_calls(bytes: &[u8], rng: &mut Rng) -> Vec<(usize, usize)> {
 fn check_answers(bytes: &[u8], n: usize, answer_length: usize, rng: &mut Rng) -> Result<(), String> {
     let fill = rng.between(4, 250) as u8; // no code and no side, so that what is written shows
     let what = format!("check with {n} columns and {answer_length} bytes of answer");
-    let expected = expected::checked(n, bytes, answer_length, fill);
+    let expected = expected::checked(n, bytes, answer_length, fill)?;
     match library::check(n, bytes, answer_length, fill) {
         Some(found) => agree(&what, &expected, &found),
         None => Err(format!("{what} wrote outside its answer")),

@@ -4,6 +4,7 @@ use crate::compare::{self, Compared};
 use crate::expected::Outcome;
 use crate::generate::{kinds, Kind};
 use crate::listing::{hexadecimal, rows, MOST_BYTES};
+use crate::methods::SNPS;
 use crate::record::{column_count, Matrix};
 use crate::rng::Rng;
 use crate::rules::{table_fault, Refusal};
@@ -14,9 +15,6 @@ use std::time::{Duration, Instant};
 
 const RULES: usize = 10;
 
-/// Tables whose search may pass its limit before the run counts as failed.
-pub const MOST_SKIPPED: usize = 5;
-
 /// What became of the tables of a kind.
 #[derive(Clone, Default)]
 pub struct Tally {
@@ -26,7 +24,6 @@ pub struct Tally {
     pub error_free: usize,
     pub too_deep: usize,
     pub refused: [usize; RULES],
-    pub skipped: usize,
     pub listings: usize,
     pub in_pieces: usize,
     pub check_calls: usize,
@@ -41,11 +38,11 @@ impl Tally {
         self.in_pieces += compared.in_pieces;
         self.check_calls += compared.check_calls;
         match &compared.outcome {
-            Outcome::Skipped => self.skipped += 1,
             Outcome::Refused(Refusal { number, .. }) => self.refused[*number] += 1,
             Outcome::Accepted(table) => {
-                self.every_choice += table.by_every_choice as usize;
-                self.exact_only += !table.by_every_choice as usize;
+                let by_every_choice = table.by.contains(&SNPS[0].name);
+                self.every_choice += by_every_choice as usize;
+                self.exact_only += !by_every_choice as usize;
                 self.error_free += table.answers.check.is_some() as usize;
                 self.too_deep += table.answers.corrections.is_err() as usize;
             }
@@ -59,7 +56,6 @@ impl Tally {
             sum.exact_only += tally.exact_only;
             sum.error_free += tally.error_free;
             sum.too_deep += tally.too_deep;
-            sum.skipped += tally.skipped;
             sum.listings += tally.listings;
             sum.in_pieces += tally.in_pieces;
             sum.check_calls += tally.check_calls;
@@ -136,9 +132,6 @@ impl Run<'_> {
         let begun = Instant::now();
         match compare::table(&bytes, self.listing, &mut rng) {
             Ok(compared) => {
-                if let Outcome::Skipped = compared.outcome {
-                    println!("skipped: table {index} of seed {}, {}", self.seed, kind.name);
-                }
                 self.tallies.lock().expect("no thread panicked")[self.tables[index]].add(&compared, begun.elapsed());
             }
             Err(difference) => {

@@ -21,7 +21,7 @@ C 1 111 AAA -BB 112 0,0,0
 /// The number of wrong expectations that were noticed.
 pub fn run(listing: Option<&Path>) -> Result<usize, String> {
     let table = printed_table();
-    let own = expected::text(&expected::outcome(&table)?).ok_or("the printed table was skipped")?;
+    let own = expected::text(&expected::outcome(&table)?);
     same_text("the printed listing", PRINTED_LISTING, own.as_bytes())?;
     if let Some(program) = listing {
         listing_says(program, &table, PRINTED_LISTING)?;
@@ -50,7 +50,7 @@ fn spoiled(text: &str) -> Vec<String> {
 fn wrong_checks() -> Result<usize, String> {
     let pair = [record(1, 0, &[1]), record(2, 0, &[2])].concat();
     let found = library::check(1, &pair, 7, 9).ok_or("check wrote outside its answer")?;
-    let mut wrong = expected::checked(1, &pair, 7, 9);
+    let mut wrong = expected::checked(1, &pair, 7, 9)?;
     agree("check of A and B", &wrong, &found)?;
     for i in 0..7 {
         wrong.answer[i] ^= 1;

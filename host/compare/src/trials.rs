@@ -1,10 +1,11 @@
-//! Paper 01's trials, for both methods.
+//! Paper 01's trials, for every method.
 
 use crate::answer::Answers;
+use crate::methods::{CORRECTIONS, FRAGMENTS, SNPS};
 use crate::record::{column_count, record, Matrix, RECORD};
 use crate::rules::{check_fault, table_fault, too_deep, Refusal};
 use crate::self_test::{printed_table, PRINTED_LISTING};
-use crate::{brute, exact, listing};
+use crate::{listing, methods};
 
 /// A table of fragments as the paper writes them, one letter to a column.
 fn table(fragments: &[&str]) -> Vec<u8> {
@@ -18,14 +19,15 @@ fn fragment_record(tag: u32, fragment: &str) -> [u8; RECORD] {
     record(tag, start, &calls)
 }
 
-/// Every choice and the exact method, which must agree.
+/// The answers of every method, which must agree.
 fn answers(fragments: &[&str]) -> (Matrix, Answers) {
     let bytes = table(fragments);
     let n = fragments.first().map_or(0, |fragment| fragment.len());
     assert_eq!(table_fault(n, &bytes), None);
     let matrix = Matrix::read(&bytes, n);
-    let answers = brute::answers(&matrix);
-    assert_eq!(answers, exact::answers(&matrix).expect("a small search"));
+    let (answers, by) = methods::answers(&matrix).expect("the methods agree");
+    let all = [&SNPS[..], &FRAGMENTS, &CORRECTIONS].concat();
+    assert_eq!(by, all.iter().map(|method| method.name).collect::<Vec<_>>(), "each settles a small table");
     (matrix, answers)
 }
 

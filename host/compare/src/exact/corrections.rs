@@ -4,7 +4,7 @@
 //! last fragment alone to the whole block.
 
 use super::letters::{below, members, Letters};
-use super::{block_numbers, Skipped, Work};
+use super::{block_numbers, PastLimit, Work};
 use crate::answer::Answer;
 use crate::record::{A, B, HOLE};
 
@@ -23,7 +23,7 @@ struct Search<'a> {
     work: &'a mut Work,
 }
 
-pub fn answer(letters: &Letters, work: &mut Work) -> Result<Answer, Skipped> {
+pub fn answer(letters: &Letters, work: &mut Work) -> Result<Answer, PastLimit> {
     let all = letters.all_columns();
     let mut sides = vec![1; letters.m()];
     for block in letters.blocks(all, letters.all_fragments()) {
@@ -46,7 +46,7 @@ fn majority([a, b]: [usize; 2]) -> u8 {
 }
 
 /// The sides of the block's fragments in the first side list of least cost.
-fn first_least_sides(letters: &Letters, block: u128, work: &mut Work) -> Result<Vec<u8>, Skipped> {
+fn first_least_sides(letters: &Letters, block: u128, work: &mut Work) -> Result<Vec<u8>, PastLimit> {
     let mut order: Vec<usize> = members(block).collect();
     order.sort_by_key(|&f| (letters.calls(f).trailing_zeros(), letters.calls(f).leading_zeros()));
     let mut search = Search {
@@ -87,7 +87,7 @@ impl Moving {
 
 impl Search<'_> {
     /// Settles the least cost of the fragments from a place of the order on.
-    fn find_least(&mut self, from: usize) -> Result<(), Skipped> {
+    fn find_least(&mut self, from: usize) -> Result<(), PastLimit> {
         let mut limit = self.least_from[from + 1];
         // the two sides can be exchanged, so the first fragment is on side 1
         while !self.within(from, &[1], limit)? {
@@ -99,7 +99,7 @@ impl Search<'_> {
 
     /// From a least side list to the first one: each fragment in record order moves to side 1 if a list of the same cost
     /// agrees on all fragments before.
-    fn first_among_equals(&mut self, block: u128) -> Result<(), Skipped> {
+    fn first_among_equals(&mut self, block: u128) -> Result<(), PastLimit> {
         for f in members(block) {
             if self.sides[f] == 2 {
                 self.moved(Moving { fragment: f, settled: below(f), reach: 0 }, 0, self.least_from[0])?;
@@ -111,7 +111,7 @@ impl Search<'_> {
     /// Is there a side list with at most this cost that differs from `sides` at one fragment, and at no settled one? It is
     /// enough to look at lists in which the fragments that differ hang together by shared columns: those that do not hang
     /// together with the one would change the cost by themselves, and none can lower it. If there is one, `sides` holds it.
-    fn moved(&mut self, moving: Moving, at: usize, left: usize) -> Result<bool, Skipped> {
+    fn moved(&mut self, moving: Moving, at: usize, left: usize) -> Result<bool, PastLimit> {
         let Some(&f) = self.order.get(at) else {
             return Ok(true);
         };
@@ -135,7 +135,7 @@ impl Search<'_> {
 
     /// Is there a side list of the fragments from a place on with at most this cost, the first on one of these sides? If so,
     /// `sides` holds it.
-    fn within(&mut self, at: usize, first: &[u8], left: usize) -> Result<bool, Skipped> {
+    fn within(&mut self, at: usize, first: &[u8], left: usize) -> Result<bool, PastLimit> {
         let Some(&f) = self.order.get(at) else {
             return Ok(true);
         };

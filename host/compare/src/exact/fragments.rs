@@ -2,7 +2,7 @@
 
 use super::letters::{below, members, Letters};
 use super::odd_walk::Graph;
-use super::{Skipped, Work};
+use super::{PastLimit, Work};
 
 struct Search<'a> {
     /// for each fragment of the block those that it conflicts with
@@ -20,7 +20,7 @@ struct Branch {
 }
 
 /// The fragments that F removes in a block.
-pub fn first_least_removal(letters: &Letters, block: u128, work: &mut Work) -> Result<u128, Skipped> {
+pub fn first_least_removal(letters: &Letters, block: u128, work: &mut Work) -> Result<u128, PastLimit> {
     let near = |f: usize| members(block).filter(|&g| letters.conflict(f, g) != 0).fold(0, |set, g| set | 1 << g);
     let conflicts = (0..letters.m()).map(|f| if block >> f & 1 == 1 { near(f) } else { 0 }).collect();
     let mut search = Search { conflicts, fragments: block.count_ones() as usize, work };
@@ -37,7 +37,7 @@ pub fn first_least_removal(letters: &Letters, block: u128, work: &mut Work) -> R
 impl Search<'_> {
     /// From a least set to the first one: each removed fragment in turn stays if a set of the same size without it agrees
     /// on all fragments before.
-    fn first_among_equals(&mut self, block: u128, least: u128) -> Result<u128, Skipped> {
+    fn first_among_equals(&mut self, block: u128, least: u128) -> Result<u128, PastLimit> {
         let mut removed = least;
         let size = least.count_ones() as usize;
         for f in members(block) {
@@ -56,7 +56,7 @@ impl Search<'_> {
     }
 
     /// Fragments that are error-free, with at most `left` of those present removed.
-    fn solve(&mut self, mut branch: Branch) -> Result<Option<u128>, Skipped> {
+    fn solve(&mut self, mut branch: Branch) -> Result<Option<u128>, PastLimit> {
         self.work.spend_pairs(self.fragments)?;
         let Some(walk) = self.graph(&branch).odd_walk(1) else {
             return Ok(Some(branch.present));

@@ -59,6 +59,10 @@ impl Letters {
         self.a[f] | self.b[f]
     }
 
+    pub fn fragments_where(&self, holds: impl Fn(usize) -> bool) -> u128 {
+        (0..self.m()).filter(|&f| holds(f)).fold(0, |set, f| set | 1 << f)
+    }
+
     /// The columns on which two fragments conflict.
     pub fn conflict(&self, f: usize, g: usize) -> u128 {
         self.a[f] & self.b[g] | self.b[f] & self.a[g]

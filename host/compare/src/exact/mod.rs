@@ -1,31 +1,29 @@
-//! An exact method of another kind than trying every choice: branching on odd cycles (S and F) and on sides (C), with the
-//! number of removals or corrections as the limit. Every block is solved by itself, since blocks share neither columns nor
-//! fragments: the least counts add up, and the first choice of the whole is the first choice of each block. F has a third
-//! method for many fragments on few columns.
+//! Exact methods of another kind than trying every choice. Branching goes on odd cycles (S and F) and on sides (C), with the
+//! number of removals or corrections as the limit. Every block is branched by itself, since blocks share neither columns nor
+//! fragments: the least counts add up, and the first choice of the whole is the first choice of each block. S has a second
+//! method by pairs of columns, and F one by pairs of haplotypes. None settles a table whose search passes its limit of work.
 
+mod column_pairs;
 mod corrections;
 mod fragments;
+mod haplotype_pairs;
 mod letters;
 mod odd_walk;
-mod pairs;
 mod snps;
 
-use crate::answer::{haplotypes, Answer, Answers, REMOVED_FRAGMENT};
+use crate::answer::{haplotypes, Answer, REMOVED_FRAGMENT};
 use crate::record::Matrix;
-use crate::rules::too_deep;
 use letters::{members, Letters};
 
 /// The search passed its limit of work.
 #[derive(Debug)]
-pub struct Skipped;
+pub struct PastLimit;
 
 /// A node of S or F compares all pairs of the block's fragments; a node of C only adds one fragment. So S and F are
-/// limited by the pairs, to the same few seconds for a medium block as for a full one.
-const MOST_PAIRS: u64 = 50_000_000;
+/// limited by the pairs, to a fraction of a second for a medium block as for a full one.
+const MOST_PAIRS: u64 = 10_000_000;
 const MOST_SIDE_NODES: u64 = 10_000_000;
-
-/// With more fragments than these on few columns, F is found by pairs of haplotypes.
-const MOST_BRANCHED: usize = 30;
+const MOST_COLUMN_NODES: u64 = 1_000_000;
 
 /// The work that a search may still do.
 struct Work {
@@ -37,28 +35,14 @@ impl Work {
         Work { left: limit }
     }
 
-    fn spend(&mut self, work: u64) -> Result<(), Skipped> {
-        self.left = self.left.checked_sub(work).ok_or(Skipped)?;
+    fn spend(&mut self, work: u64) -> Result<(), PastLimit> {
+        self.left = self.left.checked_sub(work).ok_or(PastLimit)?;
         Ok(())
     }
 
-    fn spend_pairs(&mut self, fragments: usize) -> Result<(), Skipped> {
+    fn spend_pairs(&mut self, fragments: usize) -> Result<(), PastLimit> {
         self.spend((fragments * fragments) as u64)
     }
-}
-
-pub fn answers(matrix: &Matrix) -> Result<Answers, Skipped> {
-    let letters = Letters::new(matrix);
-    let corrections = match too_deep(matrix) {
-        Some(refusal) => Err(refusal),
-        None => Ok(corrections::answer(&letters, &mut Work::new(MOST_SIDE_NODES))?),
-    };
-    Ok(Answers {
-        check: check(matrix),
-        snps: least_snp_removal(matrix, &letters, &mut Work::new(MOST_PAIRS))?,
-        fragments: least_fragment_removal(matrix, &letters, &mut Work::new(MOST_PAIRS))?,
-        corrections,
-    })
 }
 
 pub fn check(matrix: &Matrix) -> Option<Answer> {
@@ -68,37 +52,50 @@ pub fn check(matrix: &Matrix) -> Option<Answer> {
     letters.first_sides(columns, fragments).map(|sides| phased(matrix, &letters, 0, columns, sides))
 }
 
-fn least_snp_removal(matrix: &Matrix, letters: &Letters, work: &mut Work) -> Result<Answer, Skipped> {
+pub fn snps_by_branching(matrix: &Matrix) -> Option<Answer> {
+    let letters = Letters::new(matrix);
+    let work = &mut Work::new(MOST_PAIRS);
     let mut kept = letters.all_columns();
     for block in letters.blocks(letters.all_columns(), letters.all_fragments()) {
-        kept &= !snps::first_least_removal(letters, block, work)?;
+        kept &= !snps::first_least_removal(&letters, block, work).ok()?;
     }
-    let sides = letters.first_sides(kept, letters.all_fragments()).expect("the rest is error-free");
-    Ok(phased(matrix, letters, matrix.n - kept.count_ones() as usize, kept, sides))
+    Some(with_columns(matrix, &letters, kept))
 }
 
-fn least_fragment_removal(matrix: &Matrix, letters: &Letters, work: &mut Work) -> Result<Answer, Skipped> {
-    if letters.m() > MOST_BRANCHED && letters.n() <= pairs::MOST_COLUMNS {
-        return Ok(without_fragments(matrix, letters, pairs::first_least_removal(letters)));
-    }
+pub fn snps_by_column_pairs(matrix: &Matrix) -> Option<Answer> {
+    let letters = Letters::new(matrix);
+    let kept = column_pairs::first_most_kept(&letters, &mut Work::new(MOST_COLUMN_NODES)).ok()??;
+    Some(with_columns(matrix, &letters, kept))
+}
+
+fn with_columns(matrix: &Matrix, letters: &Letters, kept: u128) -> Answer {
+    let sides = letters.first_sides(kept, letters.all_fragments()).expect("the rest is error-free");
+    phased(matrix, letters, matrix.n - kept.count_ones() as usize, kept, sides)
+}
+
+pub fn fragments_by_branching(matrix: &Matrix) -> Option<Answer> {
+    let letters = Letters::new(matrix);
+    let work = &mut Work::new(MOST_PAIRS);
     let mut removed = 0;
     for block in letters.blocks(letters.all_columns(), letters.all_fragments()) {
-        removed |= fragments::first_least_removal(letters, block, work)?;
+        removed |= fragments::first_least_removal(&letters, block, work).ok()?;
     }
-    Ok(without_fragments(matrix, letters, removed))
+    Some(without_fragments(matrix, &letters, removed))
 }
 
-/// F by pairs of haplotypes, if the columns are few.
-pub fn fragments_by_pairs(matrix: &Matrix) -> Option<Answer> {
+pub fn fragments_by_haplotype_pairs(matrix: &Matrix) -> Option<Answer> {
     let letters = Letters::new(matrix);
-    let few = letters.n() <= pairs::MOST_COLUMNS;
-    few.then(|| without_fragments(matrix, &letters, pairs::first_least_removal(&letters)))
+    Some(without_fragments(matrix, &letters, haplotype_pairs::first_least_removal(&letters)))
 }
 
 fn without_fragments(matrix: &Matrix, letters: &Letters, removed: u128) -> Answer {
     let columns = letters.all_columns();
     let sides = letters.first_sides(columns, letters.all_fragments() & !removed).expect("the rest is error-free");
     phased(matrix, letters, removed.count_ones() as usize, columns, sides)
+}
+
+pub fn corrections_by_branching(matrix: &Matrix) -> Option<Answer> {
+    corrections::answer(&Letters::new(matrix), &mut Work::new(MOST_SIDE_NODES)).ok()
 }
 
 fn phased(matrix: &Matrix, letters: &Letters, count: usize, columns: u128, sides: Vec<u8>) -> Answer {

@@ -3,7 +3,7 @@
 
 use super::letters::{below, members, Letters};
 use super::odd_walk::Graph;
-use super::{Skipped, Work};
+use super::{PastLimit, Work};
 
 struct Search<'a> {
     letters: &'a Letters,
@@ -22,7 +22,7 @@ struct Branch {
 }
 
 /// The columns that S removes in a block of fragments.
-pub fn first_least_removal(letters: &Letters, block: u128, work: &mut Work) -> Result<u128, Skipped> {
+pub fn first_least_removal(letters: &Letters, block: u128, work: &mut Work) -> Result<u128, PastLimit> {
     let fragments: Vec<usize> = members(block).collect();
     let columns = fragments.iter().fold(0, |set, &f| set | letters.calls(f));
     let mut search = Search { letters, fragments, must_keep: 0, work };
@@ -39,7 +39,7 @@ pub fn first_least_removal(letters: &Letters, block: u128, work: &mut Work) -> R
 impl Search<'_> {
     /// From a least set to the first one: each removed column in turn stays if a set of the same size without it agrees on
     /// all columns before.
-    fn first_among_equals(&mut self, columns: u128, least: u128) -> Result<u128, Skipped> {
+    fn first_among_equals(&mut self, columns: u128, least: u128) -> Result<u128, PastLimit> {
         let mut removed = least;
         let size = least.count_ones() as usize;
         for c in 0..self.letters.n() {
@@ -55,13 +55,13 @@ impl Search<'_> {
         Ok(removed)
     }
 
-    fn within(&mut self, columns: u128, left: usize) -> Result<Option<u128>, Skipped> {
+    fn within(&mut self, columns: u128, left: usize) -> Result<Option<u128>, PastLimit> {
         let stays = vec![0; self.fragments.len()];
         self.solve(Branch { columns, left, stays })
     }
 
     /// Columns that make the block error-free, with at most `left` of the branch's columns removed.
-    fn solve(&mut self, mut branch: Branch) -> Result<Option<u128>, Skipped> {
+    fn solve(&mut self, mut branch: Branch) -> Result<Option<u128>, PastLimit> {
         self.work.spend_pairs(self.fragments.len())?;
         let Some(walk) = self.graph(&branch, 0).odd_walk(1) else {
             return Ok(Some(branch.columns));

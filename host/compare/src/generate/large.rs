@@ -1,4 +1,4 @@
-//! Medium and full tables, for the exact method. Noise is such that its search stays small.
+//! Medium and full tables, for the exact methods. Noise is mostly such that branching stays small.
 
 use super::rows::{copy, haplotypes, letter, letters, other, place, table, Row};
 use super::small::{noisy_rows, uniform_rows};
