@@ -39,6 +39,14 @@ pub fn text(outcome: &Outcome) -> String {
     }
 }
 
+/// The methods behind an outcome.
+pub fn methods(outcome: &Outcome) -> String {
+    match outcome {
+        Outcome::Refused(_) => "the rules of a table".to_string(),
+        Outcome::Accepted(table) => table.by.join(", "),
+    }
+}
+
 /// What a call of check must return and leave in an answer filled with `fill`. Fails if two methods differ.
 pub fn checked(n: usize, table: &[u8], answer_length: usize, fill: u8) -> Result<Checked, String> {
     let untouched = vec![fill; answer_length];

@@ -3,6 +3,7 @@
 //!
 //! usage: compare [--seed N] LISTING       LISTING: the path of the listing program
 //!        compare [--seed N] --no-listing  only check and the methods
+//!        compare --expect FILE            prints the listing of a table by the methods alone, and on standard error their names
 
 mod answer;
 mod brute;
@@ -24,57 +25,67 @@ mod trials;
 
 use runner::Tally;
 use std::fmt::Debug;
-use std::path::PathBuf;
+use std::path::{Path, PathBuf};
 use std::process::ExitCode;
 
-const USAGE: &str = "usage: compare [--seed N] (LISTING | --no-listing)";
+const USAGE: &str = "usage: compare [--seed N] (LISTING | --no-listing), or compare --expect FILE";
 const SEED: u64 = 1;
 
-struct Options {
-    seed: u64,
-    listing: Option<PathBuf>,
+enum Task {
+    Compare { seed: u64, listing: Option<PathBuf> },
+    Expect(PathBuf),
 }
 
 fn main() -> ExitCode {
-    let Some(options) = options(std::env::args().skip(1)) else {
+    let words: Vec<String> = std::env::args().skip(1).collect();
+    let Some(task) = task(&words) else {
         eprintln!("{USAGE}");
         return ExitCode::from(2);
     };
-    match run(&options) {
-        Ok(summary) => {
-            println!("{summary}");
-            ExitCode::SUCCESS
-        }
+    let done = match task {
+        Task::Compare { seed, listing } => run(seed, listing.as_deref()),
+        Task::Expect(file) => print_expected(&file),
+    };
+    match done {
+        Ok(()) => ExitCode::SUCCESS,
         Err(difference) => {
-            println!("compare: FAILED\n{difference}");
+            eprintln!("compare: FAILED\n{difference}");
             ExitCode::FAILURE
         }
     }
 }
 
-fn options(mut words: impl Iterator<Item = String>) -> Option<Options> {
-    let mut seed = SEED;
-    let mut listing = None;
-    while let Some(word) = words.next() {
-        match word.as_str() {
-            "--seed" => seed = words.next()?.parse().ok()?,
-            "--no-listing" if listing.is_none() => listing = Some(None),
-            path if listing.is_none() && !path.starts_with("--") => listing = Some(Some(PathBuf::from(path))),
-            _ => return None,
-        }
+fn task(words: &[String]) -> Option<Task> {
+    let words: Vec<&str> = words.iter().map(String::as_str).collect();
+    let (seed, rest) = match &words[..] {
+        ["--expect", file] => return Some(Task::Expect(PathBuf::from(file))),
+        ["--seed", seed, rest @ ..] => (seed.parse().ok()?, rest),
+        rest => (SEED, rest),
+    };
+    match rest {
+        ["--no-listing"] => Some(Task::Compare { seed, listing: None }),
+        [path] if !path.starts_with("--") => Some(Task::Compare { seed, listing: Some(PathBuf::from(path)) }),
+        _ => None,
     }
-    Some(Options { seed, listing: listing? })
 }
 
-fn run(options: &Options) -> Result<String, String> {
-    println!("seed {}", options.seed);
-    let listing = options.listing.as_deref();
+fn print_expected(file: &Path) -> Result<(), String> {
+    let table = std::fs::read(file).map_err(|error| format!("{}: {error}", file.display()))?;
+    let outcome = expected::outcome(&table)?;
+    print!("{}", expected::text(&outcome));
+    eprintln!("{}", expected::methods(&outcome));
+    Ok(())
+}
+
+fn run(seed: u64, listing: Option<&Path>) -> Result<(), String> {
+    println!("seed {seed}");
     let noticed = self_test::run(listing)?;
-    let all = Tally::sum(&runner::run(options.seed, listing)?);
-    Ok(format!(
-        "compare: {} tables, none skipped, {} listings ({} more in pieces) and {} calls of check as expected; {noticed} wrong expectations noticed; seed {}",
-        all.tables, all.listings, all.in_pieces, all.check_calls, options.seed
-    ))
+    let all = Tally::sum(&runner::run(seed, listing)?);
+    println!(
+        "compare: {} tables, none skipped, {} listings ({} more in pieces) and {} calls of check as expected; {noticed} wrong expectations noticed; seed {seed}",
+        all.tables, all.listings, all.in_pieces, all.check_calls
+    );
+    Ok(())
 }
 
 /// Fails with both sides unless they are equal.
