@@ -1,38 +1,32 @@
 //! One table through the listing program and through check, compared with what is expected.
 
-use crate::expected::{self, Outcome};
-use crate::library;
+use crate::expected;
+use crate::library::{self, Checked};
 use crate::record::{column_count, RECORD};
 use crate::rng::Rng;
 use crate::rules::MOST_COLUMNS;
+use crate::seen::{Counts, Seen};
 use crate::{agree, program};
 use std::path::Path;
 
-/// What was compared for a table.
-pub struct Compared {
-    pub outcome: Outcome,
-    pub listings: usize,
-    pub in_pieces: usize,
-    pub check_calls: usize,
-}
-
-pub fn table(bytes: &[u8], listing: Option<&Path>, rng: &mut Rng) -> Result<Compared, String> {
+/// What was compared, and found as expected.
+pub fn table(bytes: &[u8], listing: Option<&Path>, rng: &mut Rng) -> Result<Counts, String> {
+    let mut counts = Counts::default();
     let outcome = expected::outcome(bytes)?;
-    let mut compared = Compared { outcome, listings: 0, in_pieces: 0, check_calls: 0 };
     if let Some(program) = listing {
-        let text = expected::text(&compared.outcome);
+        let text = expected::text(&outcome);
         listing_says(program, bytes, &text)?;
-        compared.listings += 1;
+        counts.add(Seen::Listing, 1);
         if rng.chance(8) {
             listing_in_pieces_says(program, bytes, &text, rng)?;
-            compared.in_pieces += 1;
+            counts.add(Seen::ListingInPieces, 1);
         }
     }
+    counts.add_outcome(&outcome);
     for (n, answer_length) in check_calls(bytes, rng) {
-        check_answers(bytes, n, answer_length, rng)?;
-        compared.check_calls += 1;
+        counts.add_check(&check_answers(bytes, n, answer_length, rng)?);
     }
-    Ok(compared)
+    Ok(counts)
 }
 
 pub fn listing_says(program: &Path, bytes: &[u8], expected: &str) -> Result<(), String> {
@@ -62,12 +56,11 @@ fn check_calls(bytes: &[u8], rng: &mut Rng) -> Vec<(usize, usize)> {
     calls
 }
 
-fn check_answers(bytes: &[u8], n: usize, answer_length: usize, rng: &mut Rng) -> Result<(), String> {
+fn check_answers(bytes: &[u8], n: usize, answer_length: usize, rng: &mut Rng) -> Result<Checked, String> {
     let fill = rng.between(4, 250) as u8; // no code and no side, so that what is written shows
     let what = format!("check with {n} columns and {answer_length} bytes of answer");
     let expected = expected::checked(n, bytes, answer_length, fill)?;
-    match library::check(n, bytes, answer_length, fill) {
-        Some(found) => agree(&what, &expected, &found),
-        None => Err(format!("{what} wrote outside its answer")),
-    }
+    let found = library::check(n, bytes, answer_length, fill).ok_or(format!("{what} wrote outside its answer"))?;
+    agree(&what, &expected, &found)?;
+    Ok(found)
 }

@@ -8,6 +8,7 @@
 mod answer;
 mod brute;
 mod compare;
+mod coverage;
 mod exact;
 mod expected;
 mod generate;
@@ -19,11 +20,12 @@ mod record;
 mod rng;
 mod rules;
 mod runner;
+mod seen;
 mod self_test;
 #[cfg(test)]
 mod trials;
 
-use runner::Tally;
+use seen::Seen;
 use std::fmt::Debug;
 use std::path::{Path, PathBuf};
 use std::process::ExitCode;
@@ -80,10 +82,13 @@ fn print_expected(file: &Path) -> Result<(), String> {
 fn run(seed: u64, listing: Option<&Path>) -> Result<(), String> {
     println!("seed {seed}");
     let noticed = self_test::run(listing)?;
-    let all = Tally::sum(&runner::run(seed, listing)?);
+    let tallies = runner::run(seed, listing)?;
+    coverage::complete(&tallies, listing.is_some())?;
+    let all = runner::sum(&tallies).counts;
+    let [tables, listings, in_pieces, calls] =
+        [Seen::Table, Seen::Listing, Seen::ListingInPieces, Seen::CheckCall].map(|seen| all.of(seen));
     println!(
-        "compare: {} tables, none skipped, {} listings ({} more in pieces) and {} calls of check as expected; {noticed} wrong expectations noticed; seed {seed}",
-        all.tables, all.listings, all.in_pieces, all.check_calls
+        "compare: {tables} tables, none skipped, {listings} listings ({in_pieces} more in pieces) and {calls} calls of check as expected; {noticed} wrong expectations noticed; seed {seed}"
     );
     Ok(())
 }

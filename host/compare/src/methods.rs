@@ -36,6 +36,10 @@ pub const CORRECTIONS: [Method; 2] = [
     Method { name: "C by branching", answer: exact::corrections_by_branching },
 ];
 
+pub fn all() -> impl Iterator<Item = Method> {
+    SNPS.into_iter().chain(FRAGMENTS).chain(CORRECTIONS)
+}
+
 fn if_small(matrix: &Matrix, method: fn(&Matrix) -> Answer) -> Option<Answer> {
     (matrix.m().max(matrix.n) <= brute::MOST_THINGS).then(|| method(matrix))
 }

@@ -1,76 +1,39 @@
 //! All tables of all kinds on every processor, and the report.
 
-use crate::compare::{self, Compared};
-use crate::expected::Outcome;
+use crate::compare;
 use crate::generate::{kinds, Kind};
 use crate::listing::{hexadecimal, rows, MOST_BYTES};
-use crate::methods::SNPS;
+use crate::methods::{self, SNPS};
 use crate::record::{column_count, Matrix};
 use crate::rng::Rng;
-use crate::rules::{table_fault, Refusal};
+use crate::rules::table_fault;
+use crate::seen::{Counts, Seen, Verdict};
 use std::path::Path;
 use std::sync::atomic::{AtomicBool, AtomicUsize, Ordering};
 use std::sync::Mutex;
 use std::time::{Duration, Instant};
 
-const RULES: usize = 10;
-
-/// What became of the tables of a kind.
-#[derive(Clone, Default)]
+/// What was seen of a kind of tables.
+#[derive(Clone)]
 pub struct Tally {
-    pub tables: usize,
-    pub every_choice: usize,
-    pub exact_only: usize,
-    pub error_free: usize,
-    pub too_deep: usize,
-    pub refused: [usize; RULES],
-    pub listings: usize,
-    pub in_pieces: usize,
-    pub check_calls: usize,
-    pub time: Duration,
+    pub kind: &'static str,
+    pub counts: Counts,
+    time: Duration,
 }
 
 impl Tally {
-    fn add(&mut self, compared: &Compared, time: Duration) {
-        self.tables += 1;
-        self.time += time;
-        self.listings += compared.listings;
-        self.in_pieces += compared.in_pieces;
-        self.check_calls += compared.check_calls;
-        match &compared.outcome {
-            Outcome::Refused(Refusal { number, .. }) => self.refused[*number] += 1,
-            Outcome::Accepted(table) => {
-                let by_every_choice = table.by.contains(&SNPS[0].name);
-                self.every_choice += by_every_choice as usize;
-                self.exact_only += !by_every_choice as usize;
-                self.error_free += table.answers.check.is_some() as usize;
-                self.too_deep += table.answers.corrections.is_err() as usize;
-            }
-        }
+    pub fn new(kind: &'static str) -> Tally {
+        Tally { kind, counts: Counts::default(), time: Duration::ZERO }
     }
+}
 
-    pub fn sum(tallies: &[Tally]) -> Tally {
-        tallies.iter().fold(Tally::default(), |mut sum, tally| {
-            sum.tables += tally.tables;
-            sum.every_choice += tally.every_choice;
-            sum.exact_only += tally.exact_only;
-            sum.error_free += tally.error_free;
-            sum.too_deep += tally.too_deep;
-            sum.listings += tally.listings;
-            sum.in_pieces += tally.in_pieces;
-            sum.check_calls += tally.check_calls;
-            sum.time += tally.time;
-            (0..RULES).for_each(|rule| sum.refused[rule] += tally.refused[rule]);
-            sum
-        })
-    }
-
-    /// The refusals that occurred, as rule:tables.
-    fn refusals(&self) -> String {
-        let shown =
-            (0..RULES).filter(|&rule| self.refused[rule] > 0).map(|rule| format!("{rule}:{}", self.refused[rule]));
-        shown.collect::<Vec<_>>().join(" ")
-    }
+/// What was seen of all kinds.
+pub fn sum(tallies: &[Tally]) -> Tally {
+    tallies.iter().fold(Tally::new("all"), |mut sum, tally| {
+        sum.counts.add_all(&tally.counts);
+        sum.time += tally.time;
+        sum
+    })
 }
 
 struct Run<'a> {
@@ -92,7 +55,7 @@ pub fn run(seed: u64, listing: Option<&Path>) -> Result<Vec<Tally>, String> {
     let run = Run {
         seed,
         listing,
-        tallies: Mutex::new(vec![Tally::default(); kinds.len()]),
+        tallies: Mutex::new(kinds.iter().map(|kind| Tally::new(kind.name)).collect()),
         kinds,
         tables,
         next: AtomicUsize::new(0),
@@ -109,7 +72,7 @@ pub fn run(seed: u64, listing: Option<&Path>) -> Result<Vec<Tally>, String> {
         return Err(difference);
     }
     let tallies = run.tallies.into_inner().expect("no thread panicked");
-    print_tallies(&run.kinds, &tallies);
+    print_tallies(&tallies);
     Ok(tallies)
 }
 
@@ -131,8 +94,10 @@ impl Run<'_> {
         let bytes = kind.table(&mut rng);
         let begun = Instant::now();
         match compare::table(&bytes, self.listing, &mut rng) {
-            Ok(compared) => {
-                self.tallies.lock().expect("no thread panicked")[self.tables[index]].add(&compared, begun.elapsed());
+            Ok(counts) => {
+                let tally = &mut self.tallies.lock().expect("no thread panicked")[self.tables[index]];
+                tally.counts.add_all(&counts);
+                tally.time += begun.elapsed();
             }
             Err(difference) => {
                 self.failed.store(true, Ordering::Relaxed);
@@ -155,18 +120,22 @@ fn shown(bytes: &[u8]) -> String {
     format!("{} bytes:\n{}{letters}", bytes.len(), hexadecimal(bytes))
 }
 
-fn print_tallies(kinds: &[Kind], tallies: &[Tally]) {
-    let heads = ["tables", "choices", "exact", "no error", "deep", "seconds"].map(|head| format!("{head:>8}"));
+fn print_tallies(tallies: &[Tally]) {
+    let heads = ["tables", "yes", "no", "C deep", "choices", "seconds"].map(|head| format!("{head:>8}"));
     println!("{:<20} {}  refused by rule:tables", "kind", heads.join(" "));
-    for (kind, tally) in kinds.iter().zip(tallies) {
-        print_tally(kind.name, tally);
-    }
-    print_tally("all", &Tally::sum(tallies));
+    tallies.iter().for_each(print_tally);
+    let all = sum(tallies);
+    print_tally(&all);
+    let checked = [Verdict::Yes, Verdict::No].map(|verdict| all.counts.of(Seen::Checked(verdict)));
+    println!("check: {} yes, {} no, refused {}", checked[0], checked[1], all.counts.refusals(Seen::Checked));
+    let settled = methods::all().map(|method| format!("{} {}", method.name, all.counts.of(Seen::By(method.name))));
+    println!("settled: {}", settled.collect::<Vec<_>>().join(", "));
 }
 
-fn print_tally(name: &str, tally: &Tally) {
-    let numbers = [tally.tables, tally.every_choice, tally.exact_only, tally.error_free, tally.too_deep];
-    let numbers = numbers.map(|number| format!("{number:>8}")).join(" ");
-    let line = format!("{name:<20} {numbers} {:>8.1}  {}", tally.time.as_secs_f64(), tally.refusals());
-    println!("{}", line.trim_end());
+fn print_tally(tally: &Tally) {
+    let yes_no = [Verdict::Yes, Verdict::No].map(Seen::Listed);
+    let columns = [Seen::Table, yes_no[0], yes_no[1], Seen::TooDeep, Seen::By(SNPS[0].name)];
+    let numbers = columns.map(|seen| format!("{:>8}", tally.counts.of(seen))).join(" ");
+    let refusals = tally.counts.refusals(Seen::Listed);
+    println!("{}", format!("{:<20} {numbers} {:>8.1}  {refusals}", tally.kind, tally.time.as_secs_f64()).trim_end());
 }

@@ -1,7 +1,11 @@
-//! Shows that the comparison can fail: what paper 01 prints passes, and with any one letter changed it does not.
+//! Shows that the comparison can fail: what paper 01 prints passes, and with any one letter changed it does not. A method
+//! that differs is noticed, and so is a run that has seen too little.
 
 use crate::compare::{listing_says, same_text};
-use crate::record::record;
+use crate::coverage::{self, Demand};
+use crate::methods::{settled, Method, FRAGMENTS, SNPS};
+use crate::record::{record, Matrix};
+use crate::runner::Tally;
 use crate::{agree, expected, library};
 use std::path::Path;
 
@@ -34,7 +38,7 @@ pub fn run(listing: Option<&Path>) -> Result<usize, String> {
         }
         noticed += 1;
     }
-    Ok(noticed + wrong_checks()?)
+    Ok(noticed + wrong_checks()? + wrong_methods()? + too_little_seen(false)? + too_little_seen(true)?)
 }
 
 /// The text with one letter changed at every fifth place, without its end, and with a line more.
@@ -60,6 +64,39 @@ fn wrong_checks() -> Result<usize, String> {
     wrong.code += 1;
     must_differ(agree("check", &wrong, &found))?;
     Ok(8)
+}
+
+/// A method with another answer, and no method that settles the table.
+fn wrong_methods() -> Result<usize, String> {
+    let matrix = Matrix::read(&printed_table(), 3);
+    let silent = Method { name: "silent", answer: |_| None };
+    let differing = Method { name: "differing", answer: FRAGMENTS[0].answer };
+    agree("the methods of S", &vec![SNPS[0].name], &settled(&[silent, SNPS[0]], &matrix)?.by)?;
+    must_differ(settled(&[SNPS[0], differing], &matrix).map(drop))?;
+    must_differ(settled(&[silent], &matrix).map(drop))?;
+    Ok(2)
+}
+
+/// Tallies that just meet every demand pass; without a kind, or with a count that just misses, they do not.
+fn too_little_seen(with_listing: bool) -> Result<usize, String> {
+    let kinds = coverage::kind_names();
+    let place = |demand: &Demand| kinds.iter().position(|&kind| Some(kind) == demand.kind).unwrap_or(0);
+    let demands = coverage::demands(with_listing);
+    let mut tallies: Vec<Tally> = kinds.iter().map(|kind| Tally::new(kind)).collect();
+    for demand in &demands {
+        tallies[place(demand)].counts.set(demand.seen, demand.number.just_met());
+    }
+    coverage::complete(&tallies, with_listing)?;
+    let mut wrong = vec![tallies[1..].to_vec()];
+    for demand in &demands {
+        for count in demand.number.just_missed() {
+            let mut missing = tallies.clone();
+            missing[place(demand)].counts.set(demand.seen, count);
+            wrong.push(missing);
+        }
+    }
+    wrong.iter().try_for_each(|tallies| must_differ(coverage::complete(tallies, with_listing)))?;
+    Ok(wrong.len())
 }
 
 fn must_differ(compared: Result<(), String>) -> Result<(), String> {

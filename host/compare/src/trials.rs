@@ -1,7 +1,6 @@
 //! Paper 01's trials, for every method.
 
 use crate::answer::Answers;
-use crate::methods::{CORRECTIONS, FRAGMENTS, SNPS};
 use crate::record::{column_count, record, Matrix, RECORD};
 use crate::rules::{check_fault, table_fault, too_deep, Refusal};
 use crate::self_test::{printed_table, PRINTED_LISTING};
@@ -26,8 +25,7 @@ fn answers(fragments: &[&str]) -> (Matrix, Answers) {
     assert_eq!(table_fault(n, &bytes), None);
     let matrix = Matrix::read(&bytes, n);
     let (answers, by) = methods::answers(&matrix).expect("the methods agree");
-    let all = [&SNPS[..], &FRAGMENTS, &CORRECTIONS].concat();
-    assert_eq!(by, all.iter().map(|method| method.name).collect::<Vec<_>>(), "each settles a small table");
+    assert_eq!(by, methods::all().map(|method| method.name).collect::<Vec<_>>(), "each settles a small table");
     (matrix, answers)
 }
 
