@@ -21,7 +21,7 @@ struct Kind {
 
 const NONE: [usize; 9] = [0; 9];
 
-const KINDS: [Kind; 24] = [
+const KINDS: [Kind; 25] = [
     kind("no records", 3, [3, 0, 0], NONE),
     kind("uniform", 1500, [360, 380, 20], NONE),
     kind("noisy copies", 2000, [500, 490, 7], NONE),
@@ -46,6 +46,7 @@ const KINDS: [Kind; 24] = [
     kind("full, shallow", 80, [5, 30, 0], NONE),
     kind("full, blocks", 60, [0, 30, 0], NONE),
     kind("full, 8 and 9 calls", 20, [0, 10, 2], NONE),
+    kind("full, heavy noise", 20, [0, 20, 20], NONE),
 ];
 
 const fn kind(name: &'static str, tables: usize, [yes, no, too_deep]: [usize; 3], refused: [usize; 9]) -> Kind {

@@ -154,6 +154,17 @@ pub fn full_blocks(rng: &mut Rng) -> Vec<u8> {
     table(rng, rows)
 }
 
+/// Any noise, up to letters at random: S and F remove many. Too deep for C.
+pub fn full_heavy_noise(rng: &mut Rng) -> Vec<u8> {
+    let haplotypes = haplotypes(rng, MOST_COLUMNS, 80);
+    let noise = rng.pick(&[20, 50, 200, 500]);
+    let longest = rng.pick(&[24, CELLS]);
+    let mut places = vec![(0, CELLS), (MOST_COLUMNS - CELLS, CELLS)];
+    places.extend((2..MOST_FRAGMENTS).map(|_| place(rng, MOST_COLUMNS, longest)));
+    let rows = places.into_iter().map(|place| copy(rng, &haplotypes, place, noise)).collect();
+    table(rng, rows)
+}
+
 /// Exactly 8 calls in each column, and in half of the tables 9 in one.
 pub fn full_at_depth(rng: &mut Rng) -> Vec<u8> {
     let width = MOST_CALLS_OF_A_COLUMN;

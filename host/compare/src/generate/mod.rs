@@ -46,5 +46,6 @@ pub fn kinds() -> Vec<Kind> {
         kind("full, shallow", 80, large::full_shallow),
         kind("full, blocks", 60, large::full_blocks),
         kind("full, 8 and 9 calls", 20, large::full_at_depth),
+        kind("full, heavy noise", 20, large::full_heavy_noise),
     ]
 }
