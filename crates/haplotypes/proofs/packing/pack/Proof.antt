@@ -27,7 +27,7 @@ same-length : tie.Need-same-length
 same-length c = search needs
 
 returns-2 : tie.Need-returns-2
-returns-2 c = search needs
+returns-2 c = c .before .before .pack-sized .ensures
 
 pub pack-spec : {M : Type 1} → statement M
 pack-spec =

@@ -27,7 +27,7 @@ same-length-2 : tie.Need-same-length-2
 same-length-2 c = search needs
 
 returns-2 : tie.Need-returns-2
-returns-2 c = search needs
+returns-2 c = c .before .before .before .before .unpack-sized .ensures
 
 pub unpack-spec : {M : Type 1} → statement M
 unpack-spec =
