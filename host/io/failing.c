@@ -4,6 +4,7 @@
  * Other programs, which inherit the environment, are left alone. */
 #define _GNU_SOURCE
 #include <errno.h>
+#include <stdint.h>
 #include <stdlib.h>
 #include <string.h>
 #include <sys/syscall.h>
@@ -31,34 +32,27 @@ static int watched(int fd, int which)
     return fd == which && strcmp(program_invocation_short_name, "listing") == 0;
 }
 
-ssize_t read(int fd, void *bytes, size_t count)
+/* Moves as many bytes as the limits allow, or fails with `error` where they allow none. */
+static ssize_t move(long call, int fd, uintptr_t bytes, size_t count, const char *limit, int error)
 {
-    static size_t moved;
-    if (!watched(fd, STDIN_FILENO))
-        return syscall(SYS_read, fd, bytes, count);
-    size_t some = allowed(count, moved, "READ_FAILS_AFTER");
+    static size_t moved[2]; /* by the descriptor: 0 read, 1 written */
+    size_t some = allowed(count, moved[fd], limit);
     if (some == 0 && count) {
-        errno = EIO;
+        errno = error;
         return -1;
     }
-    ssize_t got = syscall(SYS_read, fd, bytes, some);
-    if (0 < got)
-        moved += (size_t)got;
-    return got;
+    ssize_t done = syscall(call, fd, bytes, some);
+    if (0 < done)
+        moved[fd] += (size_t)done;
+    return done;
+}
+
+ssize_t read(int fd, void *bytes, size_t count)
+{
+    return watched(fd, STDIN_FILENO) ? move(SYS_read, fd, (uintptr_t)bytes, count, "READ_FAILS_AFTER", EIO) : syscall(SYS_read, fd, bytes, count);
 }
 
 ssize_t write(int fd, const void *bytes, size_t count)
 {
-    static size_t moved;
-    if (!watched(fd, STDOUT_FILENO))
-        return syscall(SYS_write, fd, bytes, count);
-    size_t some = allowed(count, moved, "WRITE_FAILS_AFTER");
-    if (some == 0 && count) {
-        errno = ENOSPC;
-        return -1;
-    }
-    ssize_t put = syscall(SYS_write, fd, bytes, some);
-    if (0 < put)
-        moved += (size_t)put;
-    return put;
+    return watched(fd, STDOUT_FILENO) ? move(SYS_write, fd, (uintptr_t)bytes, count, "WRITE_FAILS_AFTER", ENOSPC) : syscall(SYS_write, fd, bytes, count);
 }
