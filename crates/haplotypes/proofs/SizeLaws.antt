@@ -3,12 +3,11 @@
 use mathlib.Core.Path.{_≡_, refl, sym, ap, _∙_}
 use mathlib.Core.Bool.{false}
 use mathlib.Core.List.{List, List·Memᴰ·head, List·Memᴰ·tail}
-use Prim.Native.Nat.{ℕ, _+_, _*_, _-_, _/_, _%_, _≤_, _<_, _^_}
-use native.Mathlib.Nat.{mul-zero, sub-zero, mul-le-mul, lt-of-le-of-lt, div-add-mod', mul-mod-left, mul-div-cancel}
+use Prim.Native.Nat.{ℕ, _+_, _*_, _/_, _%_, _≤_, _<_, _^_}
+use native.Mathlib.Nat.{mul-zero, mul-le-mul, lt-of-le-of-lt, div-add-mod', mul-mod-left, mul-div-cancel}
 use native.Mathlib.Omega.{arith}
 use lib.Dec.{lit<, eqb}
 use lib.ListN.{length}
-use borrow.Rule.Slice.PartMut.{midOf, mid-len}
 use Rattle.records.specs.Below.{_==_}
 use Rattle.records.specs.Table.{fragments}
 use Rattle.records.proofs.BelowLaws.{isnt-isnt, T-isnt-isnt, isnt-<?, le-isnt, same-test, ==-eq, eq-==}
@@ -29,20 +28,6 @@ module _ {n m : ℕ} {table : List ℕ} (sized : Sized n m table) where
 
   pub sized-m : m ≤ 128
   sized-m = let e = sized-count in let h = few-fragments n table _ m (sized .kept) in omega arith
-
-  -- buffers for 128 × 128 cells and for 128 tags have room for those of the table
-  module _ (buffer : List ℕ) where
-    pub cells-fit : 16384 ≡ length buffer → m * n ≤ length buffer
-    cells-fit e = let h = mul-le-mul sized-m sized-n in omega arith
-
-    pub tags-fit : 128 ≡ length buffer → m ≤ length buffer
-    tags-fit e = let h = sized-m in omega arith
-
-    pub lent-cells : 16384 ≡ length buffer → length (midOf 0 (m * n - 0) buffer) ≡ fragments table * n
-    lent-cells e = mid-len 0 (m * n) buffer (cells-fit e) ∙ sub-zero (m * n) ∙ ap (λ (k : ℕ). k * n) (sym sized-count)
-
-    pub lent-tags : 128 ≡ length buffer → length (midOf 0 (m - 0) buffer) ≡ fragments table
-    lent-tags e = mid-len 0 m buffer (tags-fit e) ∙ sub-zero m ∙ sym sized-count
 
 module _ {n : ℕ} {cells tags : List ℕ} (sized : PackSized n cells tags) where
   -- 3
