@@ -119,7 +119,7 @@ module _ (g : Grid) where
   unfolding isnt
   no-columns = record { class = λ i. true; apart = λ i j c hi hj hc ki kj kept. absurd kept }
 
-  snp-in : length (snpKeepMarks g) ≡ g .n
+  pub snp-in : length (snpKeepMarks g) ≡ g .n
   unfolding snpKeepMarks snpFree
   snp-in = keeps-length (g .n) (least-in (g .n) snpFree (ColumnsWork g) columns-same columns-of columns-at no-columns)
 
@@ -172,7 +172,7 @@ module _ (g : Grid) where
   unfolding isnt
   no-fragments = record { class = λ i. true; apart = λ i j c hi hj hc ki. absurd ki }
 
-  fragments-in : length (fragmentKeepMarks g) ≡ g .m
+  pub fragments-in : length (fragmentKeepMarks g) ≡ g .m
   unfolding fragmentKeepMarks fragmentFree
   fragments-in = keeps-length (g .m) (least-in (g .m) fragmentFree (FragmentsWork g) fragments-same fragments-of fragments-at no-fragments)
 

@@ -20,7 +20,8 @@ use Rattle.conflicts.specs.Corrections.{correctionCost, sideCount, sideP
 use Rattle.conflicts.specs.Haplotypes.{haplotype, haplotypes}
 use Rattle.conflicts.specs.Blocks.{linked, reached, lowest, block}
 use Rattle.conflicts.specs.Answer.{answerSize, answer, checkAnswer, snpAnswer, fragmentAnswer, correctedGrid, correctionAnswer, rewrittenCode, rewritten, correctedTable}
-use Rattle.conflicts.specs.Services.{workRules, lengthRule, depthRules, packSizeRules, fragmentRules, unpackRules, packRules, checkRules, removalRules, correctionRules, unpackLeaves, packLeaves, findLeaves, checkLeaves, snpRemovalLeaves, fragmentRemovalLeaves, correctionsLeaves, hostCode}
+use Rattle.conflicts.specs.Services.{workRules, lengthRule, depthRules, packSizeRules, fragmentRules, unpackRules, packRules, checkRules, removalRules, correctionRules, unpackLeaves, packLeaves, findLeaves, checkLeaves, snpRemovalLeaves, fragmentRemovalLeaves, correctionsLeaves}
+use Rattle.conflicts.specs.Host.{hostCode, hostOutcome, hostRead}
 use Rattle.records.proofs.TrialTools.{sameVerdict, sameList, filled, made}
 
 -- ---- trials
@@ -62,13 +63,14 @@ lent (F n table answer work) = answer ∷ []
 lent (C n table answer output work) = answer ∷ output ∷ []
 
 -- accepts: the call returns this count and leaves these buffers. keeps: it returns this and leaves its buffers as they were. works: its work buffer, whole, is this then.
--- finds: of a tag and a table, the part starts here and has so many bytes. equals: one number and another
+-- finds: of a tag and a table, the part starts here and has so many bytes. equals: one number and another. reads: of a base and a host's number, this outcome
 pub data Trial : Type 0 where
   accepts : Call → ℕ → List (List ℕ) → Trial
   keeps : Call → Verdict → Trial
   works : Call → List ℕ → Trial
   finds : ℕ → List ℕ → ℕ → ℕ → Trial
   equals : ℕ → ℕ → Trial
+  reads : ℕ → ℕ → Verdict → Trial
 
 left : Call → Verdict → List (List ℕ) → Bool
 left call outcome buffers = let r = leaves call in sameVerdict (r .0) outcome && sameList (sameList eqb) (r .1) buffers
@@ -79,6 +81,7 @@ passes (keeps call outcome) = left call outcome (lent call)
 passes (works call buffer) = sameList eqb (workLeft call) buffer
 passes (finds tag table start count) = let r = findLeaves tag table in eqb (r .start) start && eqb (r .count) count
 passes (equals x y) = eqb x y
+passes (reads base number outcome) = sameVerdict (hostRead base number) outcome
 
 -- the places of the trials that fail, counted from i
 pub failing : ℕ → List Trial → List ℕ
@@ -342,10 +345,16 @@ trials =
     ∷ equals (hostCode (leaves (checkOn 1 pair) .0)) 0
     ∷ equals (hostCode (leaves (checkOn 3 printed) .0)) 1
     ∷ equals (hostCode (leaves (checkOn 3 holed) .0)) 8002
+    ∷ equals (hostOutcome (leaves (SOn 3 printed) .0)) 1
+    ∷ equals (hostOutcome (leaves (SOn 3 holed) .0)) 34359738370
+    ∷ reads 1000 1 (accepted 1)
+    ∷ reads 1000 8002 (refused 8 2)
+    ∷ reads 4294967296 16384 (accepted 16384)
+    ∷ reads 4294967296 34359738370 (refused 8 2)
     ∷ []
 
 pub all-pass : failing 0 trials ≡ []
-unfolding leaves workLeft lent sameVerdict sameList left passes failing nines work9 answer9 unpackOn checkOn SOn FOn COn filled made frag printed pair same three four lone edge callless apart bridged dangling inside plain unforced rarerA holed deep freeOn far trials
+unfolding leaves workLeft lent sameVerdict sameList left passes failing nines work9 answer9 unpackOn checkOn SOn FOn COn filled made frag printed pair same three four lone edge callless apart bridged dangling inside plain unforced rarerA holed deep freeOn far trials hostRead
     _==_ _<?_ _≤?_ _and_ _or_ isnt allBelow anyBelow sumBelow countBelow firstBelow endBelow tab tabFrom concat
     littleEndian tagOf startOf spanOf byte7Of isCall cellOf codeAt fragments recordAt partStart partLength position unpackedCells unpackedTags
     bytesOf cellBytes callsEnd callsStart callsSpan cut laidOut recordOf rowOf packed

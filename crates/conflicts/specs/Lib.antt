@@ -13,3 +13,4 @@ pub mod Minimality
 pub mod Turning
 pub mod Services
 pub mod Served
+pub mod Host

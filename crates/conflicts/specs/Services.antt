@@ -1,6 +1,6 @@
 -- The seven services: the rules of each in the order in which they are tested, and everything that a call leaves (paper 01, "Refused tables").
 -- Assumes nothing.
-use Prim.Native.Nat.{ℕ, zero, suc, _+_, _*_}
+use Prim.Native.Nat.{ℕ, zero, suc, _*_}
 use mathlib.Core.List.{List, [], _∷_}
 use lib.ListN.{length, getD, replicate}
 use Rattle.records.specs.Below.{if_then_else_, _==_, _<?_, isnt, anyBelow, tab, concat}
@@ -160,8 +160,3 @@ correctionsLeaves n table answer output work =
     let g = gridOf n table in
     let v = decide (correctionRules n table answer output work) (accepted (changedCells g (gridOf n (correctedTable n table)))) in
     record { outcome = v; answer = written v (correctionAnswer g) answer; table = written v (correctedTable n table) output; work = workAfter v work }
-
--- the host's number: "0 for yes, 1 for no, 1,000 × number + place for a refusal"
-abbrev pub hostCode : Verdict → ℕ
-hostCode (accepted count) = count
-hostCode (refused number place) = 1000 * number + place

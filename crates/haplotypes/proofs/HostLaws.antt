@@ -1,72 +1,237 @@
--- A refusal of check names a place of the table, so its number for the host fits 64 bits.
+-- Every outcome of a service can be read from its number for the host.
 -- Assumes nothing.
-use mathlib.Core.Path.{_≡_, refl, sym, subst}
+use mathlib.Core.Path.{_≡_, refl, sym, ap, ap₂, subst, _∙_}
 use mathlib.Core.Bool.{Bool, true, false}
 use mathlib.Core.Logic.{inl, inr}
-use mathlib.Core.List.{List, [], _∷_, List·Memᴰ, List·Memᴰ·head, List·Memᴰ·tail, List·Memᴰ·not-nil, List·Memᴰ·cases-cons, List·Memᴰ·append-cases}
-use Prim.Native.Nat.{ℕ, _+_, _*_, _^_, _≤_, _<_, zero-le}
-use lib.ListN.{length}
-use native.Mathlib.Nat.{le-of-lt}
+use mathlib.Core.List.{List, [], _∷_, _++_, List·Memᴰ, List·Memᴰ·head, List·Memᴰ·tail, List·Memᴰ·not-nil, List·Memᴰ·cases-cons, List·Memᴰ·append-cases}
+use Prim.Native.Nat.{ℕ, zero, suc, _+_, _*_, _/_, _%_, _≤_, _<_, zero-le}
+use native.Mathlib.Nat.{mul-comm, mul-le-mul, suc-mul, le-refl, lt-of-le-of-lt}
 use native.Mathlib.Omega.{arith}
-use Rattle.records.specs.Below.{if_then_else_, concat}
-use Rattle.records.specs.Table.{fragments}
-use Rattle.records.specs.Outcome.{accepted, refused}
-use Rattle.records.specs.Rules.{Rule, decide, recordRules, tableRules, sizeRules}
+use lib.Arith.{digits-div, digits-mod}
+use lib.ListN.{length}
+use Rattle.records.specs.Below.{if_then_else_, _<?_, concat, tab, countBelow, sumBelow}
+use Rattle.records.specs.Table.{fragments, partStart, position}
+use Rattle.records.specs.declared.Outcome.{Outcome}
+use Rattle.records.specs.declared.Outcome.the-variants.{Refused}
+use Rattle.records.specs.Outcome.{Verdict, accepted, refused, outcomeOf}
+use Rattle.records.specs.Rules.{Rule, rule, decide, recordRules, tableRules, sizeRules}
+use Rattle.records.proofs.BelowLaws.{if-true, if-false, lt-<?, le-isnt, count-bound}
 use Rattle.records.proofs.MemberLaws.{concat-at, tab-at}
-use Rattle.conflicts.specs.Services.{lengthRule, checkRules, checkLeaves}
+use Rattle.records.proofs.RuleLaws.{decide-append, decide-accepted, decide-refused}
+use Rattle.records.proofs.AcceptedLaws.{few-columns, few-fragments}
+use Rattle.conflicts.specs.Choice.{zeros, keepAll}
+use Rattle.conflicts.specs.Grid.{Grid, gridOf, depth}
+use Rattle.conflicts.specs.Sides.{errorFree}
+use Rattle.conflicts.specs.Removal.{snpKeepMarks, fragmentKeepMarks}
+use Rattle.conflicts.specs.Corrections.{changedCells, cellCount, differs}
+use Rattle.conflicts.specs.Services.{workRules, lengthRule, depthRules, packSizeRules, fragmentRules, unpackRules, packRules, checkRules, removalRules, correctionRules, unpackLeaves, packLeaves, findLeaves, checkLeaves, snpRemovalLeaves, fragmentRemovalLeaves, correctionsLeaves}
+use Rattle.conflicts.specs.Host.{hostNumber, hostRead, HostFits}
+use Rattle.conflicts.proofs.Minimality.{snp-in, fragments-in}
+use Rattle.services.proofs.SizeLaws.{pack-m}
 
--- no rule of the list has a place over b
-abbrev Within : ℕ → List Rule → Type 0
-Within b rs = (r : Rule) → List·Memᴰ r rs → r .place ≤ b
+-- ---- the encoding
 
-none-within : (b : ℕ) → Within b []
-none-within b r m = absurd (List·Memᴰ·not-nil m)
-
-one-more : (b : ℕ) (r : Rule) (rs : List Rule) → r .place ≤ b → Within b rs → Within b (r ∷ rs)
-one-more b r rs h rest s m = elim (List·Memᴰ·cases-cons m) [ inl e ↦ subst (λ (q : Rule). q .place ≤ b) (sym e) h | inr k ↦ rest s k ]
-
--- a refusal's place is that of one of the rules
-refused-within : (b : ℕ) (rs : List Rule) (j k p : ℕ) → Within b rs → decide rs (accepted j) ≡ refused k p → p ≤ b
-unfolding decide
-refused-within b [] j k p w e = absurd (let z : _≡_ {A = ℕ} 0 1 = cc in omega arith)
-refused-within b (r ∷ rs) j k p w e = go (refused-within b rs j k p (λ s m. w s (List·Memᴰ·tail m))) (r .broken) e
+-- an outcome that fits is read from its number, so no acceptance reads as a refusal
+pub host-read : (base : ℕ) {v : Verdict} {r : ℕ} → HostFits base v → r ≡ hostNumber base v → hostRead base r ≡ v
+unfolding hostRead
+host-read base {v} h e = ap (hostRead base) e ∙ go v h
   where
-    go : (decide rs (accepted j) ≡ refused k p → p ≤ b) → (c : Bool) → (if c then refused (r .number) (r .place) else decide rs (accepted j)) ≡ refused k p → p ≤ b
-    go rest true e = let h = w r (List·Memᴰ·head refl) in let same : r .place ≡ p = cc in omega arith
-    go rest false e = rest e
+    turn : (number : ℕ) → base * number ≡ number * base
+    turn number = mul-comm base number
 
-record-within : (b n : ℕ) (table : List ℕ) (i : ℕ) → i ≤ b → Within b (recordRules n table i)
-unfolding recordRules
-record-within b n table i h = one-more b _ _ h (one-more b _ _ h (one-more b _ _ h (one-more b _ _ h (one-more b _ _ h (one-more b _ _ h (none-within b))))))
+    go : (v : Verdict) → HostFits base v → hostRead base (hostNumber base v) ≡ v
+    go (accepted count) h = if-true (count <? base) _ _ (lt-<? count base h)
+    go (refused number place) h =
+        let g = mul-le-mul (le-refl base) (h .0) in
+        if-false (base * number + place <? base) _ _ (le-isnt _ _ (omega arith))
+        ∙ ap₂ refused (ap (λ (r : ℕ). (r + place) / base) (turn number) ∙ digits-div number (h .1)) (ap (λ (r : ℕ). (r + place) % base) (turn number) ∙ digits-mod number (h .1))
 
-table-within : (n : ℕ) (table : List ℕ) → Within (fragments table) (tableRules n table)
-unfolding tableRules
-table-within n table r m =
-    let a = concat-at _ m in
-    let b = tab-at (recordRules n table) (fragments table) (a .1) in
-    record-within (fragments table) n table (b .0) (le-of-lt (b .1)) r (subst (λ (rs : List Rule). List·Memᴰ r rs) (b .2) (a .2))
+-- a refusal's number has room in 64 bits
+pub refused-room : {base number place : ℕ} {outcome : Outcome} → base ≤ 4294967296 → HostFits base (outcomeOf outcome) → outcome ≡ Refused number place → number < 256
+    → base * number + place < 18446744073709551616
+refused-room {base} {number} {place} hb fits e hn =
+    let h = subst (λ (o : Outcome). HostFits base (outcomeOf o)) e fits .1 in
+    let n : number ≤ 256 = omega arith in
+    let g : base * number ≤ 4294967296 * 256 = mul-le-mul hb n in
+    omega arith
 
-stage-more : (b : ℕ) (rs : List Rule) (stages : List (List Rule)) → Within b rs → Within b (concat stages) → Within b (concat (rs ∷ stages))
-unfolding concat
-stage-more b rs stages w rest r m = elim (List·Memᴰ·append-cases rs m) [ inl h ↦ w r h | inr h ↦ rest r h ]
+-- ---- rules that a host can read
 
-no-stage : (b : ℕ) → Within b (concat [])
-unfolding concat
-no-stage b = none-within b
+-- each has a number from 1 on and a place below the base
+abbrev Named : ℕ → List Rule → Type 0
+Named base rs = (r : Rule) → List·Memᴰ r rs → (1 ≤ r .number) × (r .place < base)
 
-check-within : (n : ℕ) (table answer : List ℕ) → Within (fragments table) (checkRules n table answer)
-unfolding checkRules sizeRules lengthRule
-check-within n table answer =
-    let b = fragments table in
-    stage-more b _ _ (one-more b _ _ zero-le (one-more b _ _ zero-le (one-more b _ _ zero-le (none-within b))))
-    (stage-more b _ _ (one-more b _ _ zero-le (none-within b))
-    (stage-more b _ _ (table-within n table) (no-stage b)))
+module _ {base : ℕ} where
+  none-named : Named base []
+  none-named r m = absurd (List·Memᴰ·not-nil m)
 
-pub check-place : (n : ℕ) (table answer : List ℕ) (k p : ℕ) → checkLeaves n table answer .outcome ≡ refused k p → p ≤ fragments table
-unfolding checkLeaves
-check-place n table answer k p e = refused-within (fragments table) (checkRules n table answer) _ k p (check-within n table answer) e
+  one-more : {r : Rule} {rs : List Rule} → 1 ≤ r .number → r .place < base → Named base rs → Named base (r ∷ rs)
+  one-more {r} h p rest s m = elim (List·Memᴰ·cases-cons m) [ inl e ↦ subst (λ (q : Rule). (1 ≤ q .number) × (q .place < base)) (sym e) (h, p) | inr k ↦ rest s k ]
 
--- so 1,000 × number + place has room: a slice has fewer than 2 ^ 63 bytes
-pub host-fits : (n : ℕ) (table answer : List ℕ) (k p : ℕ) → checkLeaves n table answer .outcome ≡ refused k p → k < 256 → length table < 2 ^ 63 → 1000 * k + p < 2 ^ 64
-unfolding fragments
-host-fits n table answer k p e h l = let g = check-place n table answer k p e in omega arith
+  stage-more : (rs : List Rule) (stages : List (List Rule)) → Named base rs → Named base (concat stages) → Named base (concat (rs ∷ stages))
+  unfolding concat
+  stage-more rs stages w rest r m = elim (List·Memᴰ·append-cases rs m) [ inl h ↦ w r h | inr h ↦ rest r h ]
+
+  rows-named : (f : ℕ → List Rule) (m : ℕ) → ((i : ℕ) → i < m → Named base (f i)) → Named base (concat (tab m f))
+  rows-named f m w r h =
+      let a = concat-at _ h in
+      let b = tab-at f m (a .1) in
+      w (b .0) (b .1) r (subst (λ (rs : List Rule). List·Memᴰ r rs) (b .2) (a .2))
+
+  decide-fits : (rs : List Rule) (v : Verdict) → Named base rs → HostFits base v → HostFits base (decide rs v)
+  unfolding decide
+  decide-fits [] v w h = h
+  decide-fits (r ∷ rs) v w h = go (decide-fits rs v (λ s m. w s (List·Memᴰ·tail m)) h) (r .broken)
+    where
+      go : HostFits base (decide rs v) → (b : Bool) → HostFits base (if b then refused (r .number) (r .place) else decide rs v)
+      go rest true = w r (List·Memᴰ·head refl)
+      go rest false = rest
+
+  -- what the later rules need may rest on the first ones
+  after-fits : (rs : List Rule) (stages : List (List Rule)) (v : Verdict) → 0 < base → Named base rs → (decide rs (accepted 0) ≡ accepted 0 → HostFits base (decide (concat stages) v))
+      → HostFits base (decide (concat (rs ∷ stages)) v)
+  unfolding concat
+  after-fits rs stages v z w rest = subst (HostFits base) (sym (decide-append rs (concat stages) v)) (go _ refl)
+    where
+      first : HostFits base (decide rs (accepted 0))
+      first = decide-fits rs (accepted 0) w z
+
+      go : (u : Verdict) → decide rs (accepted 0) ≡ u → HostFits base (decide rs (decide (concat stages) v))
+      go (accepted k) e =
+          subst (HostFits base) (sym (decide-accepted rs 0 k _ e)) (rest (decide-accepted rs 0 k (accepted 0) e))
+      go (refused k p) e = subst (HostFits base) (e ∙ sym (decide-refused rs 0 k p _ e)) first
+
+-- ---- the rules of the services
+
+module _ {base : ℕ} (wide : 128 < base) where
+  at-0 : 0 < base
+  at-0 = omega arith
+
+  sizes-named : (n : ℕ) (table : List ℕ) → Named base (sizeRules n table)
+  unfolding sizeRules
+  sizes-named n table = one-more (omega arith) at-0 (one-more (omega arith) at-0 (one-more (omega arith) at-0 none-named))
+
+  length-named : (output : List ℕ) (exact : ℕ) (rs : List Rule) → Named base rs → Named base (lengthRule output exact ∷ rs)
+  unfolding lengthRule
+  length-named output exact rs w = one-more (omega arith) at-0 w
+
+  work-named : (work : List ℕ) → Named base (workRules work)
+  unfolding workRules
+  work-named work = one-more (omega arith) at-0 none-named
+
+  record-named : (n : ℕ) (table : List ℕ) (i : ℕ) → i < base → Named base (recordRules n table i)
+  unfolding recordRules
+  record-named n table i h =
+      one-more (omega arith) h
+      (one-more (omega arith) h (one-more (omega arith) h (one-more (omega arith) h (one-more (omega arith) h (one-more (omega arith) h none-named)))))
+
+  table-named : (n : ℕ) (table : List ℕ) → fragments table ≤ 128 → Named base (tableRules n table)
+  unfolding tableRules
+  table-named n table few = rows-named _ _ (λ i h. record-named n table i (omega arith))
+
+  -- what follows rules 3, 1 and 2
+  module _ (n : ℕ) (table : List ℕ) (stages : List (List Rule)) (count : ℕ) where
+    sized-fits : (n ≤ 128 → fragments table ≤ 128 → Named base (concat stages) × (count < base)) → HostFits base (decide (concat (sizeRules n table ∷ stages)) (accepted count))
+    sized-fits rest = after-fits _ stages (accepted count) at-0 (sizes-named n table) λ e.
+        let r = rest (few-columns n table 0 0 e) (few-fragments n table 0 0 e) in
+        decide-fits (concat stages) (accepted count) (r .0) (r .1)
+
+  no-stage : Named base (concat [])
+  unfolding concat
+  no-stage = none-named
+
+  -- the records, last
+  records-named : (n : ℕ) (table : List ℕ) → fragments table ≤ 128 → Named base (concat (tableRules n table ∷ []))
+  records-named n table few = stage-more _ _ (table-named n table few) no-stage
+
+  depth-named : (g : Grid) → g .n ≤ 128 → Named base (depthRules g)
+  unfolding depthRules
+  depth-named g few = go (g .n) few
+    where
+      go : (n : ℕ) → n ≤ 128 → Named base (tab n (λ c. rule 12 c (8 <? depth g c)))
+      go n h r m = let b = tab-at _ n m in subst (λ (q : Rule). (1 ≤ q .number) × (q .place < base)) (sym (b .2)) (omega arith, let l = b .1 in omega arith)
+
+  pack-sizes-named : (n : ℕ) (cells tags : List ℕ) → Named base (packSizeRules n cells tags)
+  unfolding packSizeRules
+  pack-sizes-named n cells tags = one-more (omega arith) at-0 (one-more (omega arith) at-0 (one-more (omega arith) at-0 none-named))
+
+  fragment-named : (n : ℕ) (cells tags : List ℕ) (i : ℕ) → i < base → Named base (fragmentRules n cells tags i)
+  unfolding fragmentRules
+  fragment-named n cells tags i h = one-more (omega arith) h (one-more (omega arith) h (one-more (omega arith) h (one-more (omega arith) h none-named)))
+
+  -- S's and F's, of any count
+  removal-fits : (n : ℕ) (table answer work : List ℕ) (count : ℕ) → (n ≤ 128 → fragments table ≤ 128 → count < base) → HostFits base (decide (removalRules n table answer work) (accepted count))
+  unfolding removalRules
+  removal-fits n table answer work count bound = sized-fits n table _ count λ hn hm.
+      (stage-more _ _ (work-named work) (stage-more _ _ (length-named answer _ _ none-named) (records-named n table hm)), bound hn hm)
+
+-- ---- the outcomes
+
+-- counts are at most 16,384
+zeros-le : (marks : List ℕ) → zeros marks ≤ length marks
+unfolding zeros
+zeros-le marks = count-bound (length marks) _
+
+changed-le : (g h : Grid) → changedCells g h ≤ g .m * g .n
+unfolding changedCells cellCount sumBelow
+changed-le g h = go (g .m)
+  where
+    go : (m : ℕ) → sumBelow m (λ i. countBelow (g .n) (differs g h i)) ≤ m * g .n
+    go zero = zero-le
+    go (suc m) = let r = go m in let c = count-bound (g .n) (differs g h m) in let e = suc-mul m (g .n) in omega arith
+
+wide-host : 128 < 4294967296
+wide-host = omega arith
+
+pub unpack-fits : (n : ℕ) (table cells tags : List ℕ) → HostFits 4294967296 (unpackLeaves n table cells tags .outcome)
+unfolding unpackLeaves unpackRules
+unpack-fits n table cells tags = sized-fits wide-host n table _ _ λ hn hm.
+    (stage-more _ _ (length-named wide-host cells _ _ (length-named wide-host tags _ _ none-named)) (records-named wide-host n table hm), omega arith)
+
+pub pack-fits : (n : ℕ) (cells tags table : List ℕ) → HostFits 4294967296 (packLeaves n cells tags table .outcome)
+unfolding packLeaves packRules
+pack-fits n cells tags table = after-fits _ _ _ (omega arith) (pack-sizes-named wide-host n cells tags) λ e.
+    let few = pack-m (record { kept = decide-accepted (packSizeRules n cells tags) 0 0 _ e }) in
+    decide-fits _ _ (stage-more _ _ (length-named wide-host table _ _ none-named) (rows-named _ _ (λ i h. fragment-named wide-host n cells tags i (omega arith)))) (omega arith)
+
+pub check-fits : (n : ℕ) (table answer : List ℕ) → HostFits 1000 (checkLeaves n table answer .outcome)
+unfolding checkLeaves checkRules
+check-fits n table answer = sized-fits wide n table _ _ λ hn hm.
+    (stage-more _ _ (length-named wide answer _ _ none-named) (records-named wide n table hm), yes-or-no (errorFree 2 (gridOf n table) (keepAll (gridOf n table .n)) (keepAll (gridOf n table .m))))
+  where
+    wide : 128 < 1000
+    wide = omega arith
+
+    yes-or-no : (yes : Bool) → (if yes then 0 else 1) < 1000
+    yes-or-no true = omega arith
+    yes-or-no false = omega arith
+
+pub snp-fits : (n : ℕ) (table answer work : List ℕ) → HostFits 4294967296 (snpRemovalLeaves n table answer work .outcome)
+unfolding snpRemovalLeaves gridOf
+snp-fits n table answer work = removal-fits wide-host n table answer work _ λ hn hm.
+    let e = snp-in (gridOf n table) in let h = zeros-le (snpKeepMarks (gridOf n table)) in omega arith
+
+pub fragment-fits : (n : ℕ) (table answer work : List ℕ) → HostFits 4294967296 (fragmentRemovalLeaves n table answer work .outcome)
+unfolding fragmentRemovalLeaves gridOf
+fragment-fits n table answer work = removal-fits wide-host n table answer work _ λ hn hm.
+    let e = fragments-in (gridOf n table) in let h = zeros-le (fragmentKeepMarks (gridOf n table)) in omega arith
+
+pub corrections-fits : (n : ℕ) (table answer output work : List ℕ) → HostFits 4294967296 (correctionsLeaves n table answer output work .outcome)
+unfolding correctionsLeaves correctionRules gridOf
+corrections-fits n table answer output work = sized-fits wide-host n table _ _ λ hn hm. (
+  stage-more _ _ (work-named wide-host work)
+      (stage-more _ _ (length-named wide-host answer _ _ (length-named wide-host output _ _ none-named))
+      (stage-more _ _ (table-named wide-host n table hm) (stage-more _ _ (depth-named wide-host (gridOf n table) hn) (no-stage wide-host)))),
+  lt-of-le-of-lt (changed-le (gridOf n table) _) (lt-of-le-of-lt (mul-le-mul hm hn) (omega arith)),
+)
+
+-- ---- where find's part starts
+
+module _ {i : ℕ} (tag : ℕ) (table : List ℕ) (e : i ≡ position tag table) where
+  pub start-found : i < length table / 32 → 32 * i ≡ findLeaves tag table .start
+  unfolding findLeaves partStart fragments
+  start-found h = ap (λ (k : ℕ). 32 * k) e ∙ sym (if-true (position tag table <? length table / 32) _ (length table) (lt-<? _ _ (subst (λ (k : ℕ). k < length table / 32) e h)))
+
+  pub start-absent : length table / 32 ≤ i → length table ≡ findLeaves tag table .start
+  unfolding findLeaves partStart fragments
+  start-absent h = sym (if-false (position tag table <? length table / 32) (32 * position tag table) _ (le-isnt _ _ (subst (λ (k : ℕ). length table / 32 ≤ k) e h)))

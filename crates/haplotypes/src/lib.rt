@@ -1,21 +1,17 @@
-// The services: each tests its rules, in the paper's order, and writes only once all of them are kept.
-mod calls;
-mod checking;
-mod finding;
-mod fragments;
+// The services, for programs in Rattle and, as exports, for those in C and Rust.
 mod host;
-mod packing;
-mod rewriting;
-mod room;
-mod snps;
-mod stages;
-mod unpacking;
 
-pub use calls::least_corrections;
-pub use checking::check;
-pub use finding::find;
-pub use fragments::least_fragment_removal;
 pub use host::haplotypes_check;
-pub use packing::pack;
-pub use snps::least_snp_removal;
-pub use unpacking::unpack;
+pub use host::haplotypes_find;
+pub use host::haplotypes_least_corrections;
+pub use host::haplotypes_least_fragment_removal;
+pub use host::haplotypes_least_snp_removal;
+pub use host::haplotypes_pack;
+pub use host::haplotypes_unpack;
+pub use services::check;
+pub use services::find;
+pub use services::least_corrections;
+pub use services::least_fragment_removal;
+pub use services::least_snp_removal;
+pub use services::pack;
+pub use services::unpack;

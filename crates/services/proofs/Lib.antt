@@ -1,0 +1,12 @@
+pub mod SizeLaws
+pub mod UnpackLaws
+pub mod FragmentLaws
+pub mod PackLaws
+pub mod RoundTrips
+pub mod CheckLaws
+pub mod StageLaws
+pub mod RemovalLaws
+pub mod RewriteLaws
+pub mod TableRemovalLaws
+pub mod TableCorrectionLaws
+pub mod NumberLaws
