@@ -1,0 +1,197 @@
+//! Pikondaur's services: the fragments of one animal, sorted into the two parental copies.
+//!
+//! The library is written in Rattle and proved: for all inputs each call returns what its contract says, and writes nothing where it refuses.
+//! This crate hands its seven services to Rust as safe functions over slices. `README.md` and `docs/TRUST.md` of the repository say what is
+//! proved and what that rests on.
+//!
+//! A table is 32 bytes to a fragment: tag (4 bytes, little-endian), start (2), span (1), a byte that is 0, and 96 cells of two bits, four to a
+//! byte from the low bits on: 0 a hole, 1 A, 2 B. It has m fragments and n columns, each at most 128.
+//!
+//! An answer is 3n + 2m bytes ([`answer_length`]): n keep marks, haplotypes 1 and 2 of n codes each (3 at a removed column), m sides (0 for a removed fragment),
+//! m blocks (255 for a removed one).
+//!
+//! ```
+//! use haplotypes::{answer_length, check, least_snp_removal, pack, Outcome, RECORD, WORK};
+//!
+//! // AA-, BAA, -BB
+//! let cells = [1, 1, 0, 2, 1, 1, 0, 2, 2];
+//! let mut table = [0; 3 * RECORD];
+//! assert_eq!(pack(3, &cells, &[10, 11, 12], &mut table), Outcome::Accepted(3));
+//!
+//! let mut answer = [0; answer_length(3, 3)];
+//! assert_eq!(check(3, &table, &mut answer), Outcome::Accepted(1)); // not error-free
+//!
+//! let mut work = vec![0; WORK];
+//! assert_eq!(least_snp_removal(3, &table, &mut work, &mut answer), Outcome::Accepted(1));
+//! assert_eq!(answer[0..3], [1, 0, 1]); // column 1 goes
+//! assert_eq!(answer[9..12], [1, 2, 1]); // the second fragment is of the other copy
+//! ```
+
+pub mod ffi;
+mod outcome;
+
+pub use outcome::Outcome;
+
+use outcome::read;
+
+/// The bytes of a fragment in a table.
+pub const RECORD: usize = 32;
+
+/// The least numbers that a work buffer must have.
+pub const WORK: usize = 32768;
+
+/// The bytes of an answer for n columns and m fragments.
+pub const fn answer_length(n: usize, m: usize) -> usize {
+    3 * n + 2 * m
+}
+
+const CHECK: u64 = 1000;
+const COUNT: u64 = 1 << 32;
+
+/// A table's records as m × n cells (0 a hole, 1 A, 2 B; by fragment and then column) and m tags. Accepted with m.
+///
+/// ```
+/// use haplotypes::{pack, unpack, Outcome};
+///
+/// let mut table = [0; 64];
+/// pack(2, &[1, 2, 0, 1], &[7, 8], &mut table);
+/// let (mut cells, mut tags) = ([9; 4], [9; 2]);
+/// assert_eq!(unpack(2, &table, &mut cells, &mut tags), Outcome::Accepted(2));
+/// assert_eq!((cells, tags), ([1, 2, 0, 1], [7, 8]));
+/// ```
+pub fn unpack(n: usize, table: &[u8], cells: &mut [u8], tags: &mut [u32]) -> Outcome {
+    // Of every call here: the pointers are those of slices, so they are not null, valid for their lengths, and those that are written overlap no other.
+    read(COUNT, unsafe {
+        ffi::haplotypes_unpack(
+            n,
+            table.as_ptr(),
+            table.len(),
+            cells.as_mut_ptr(),
+            cells.len(),
+            tags.as_mut_ptr(),
+            tags.len(),
+        )
+    })
+}
+
+/// The table of m × n cells and m tags: the reverse of [`unpack`]. Accepted with m.
+///
+/// ```
+/// use haplotypes::{pack, Outcome};
+///
+/// let mut table = [9; 32];
+/// assert_eq!(pack(3, &[1, 0, 2], &[7], &mut table), Outcome::Refused(8, 0)); // a hole between two calls
+/// assert_eq!(table, [9; 32]);
+/// assert_eq!(pack(3, &[0, 1, 2], &[7], &mut table), Outcome::Accepted(1));
+/// assert_eq!(table[..9], [7, 0, 0, 0, 1, 0, 2, 0, 0b1001]);
+/// ```
+pub fn pack(n: usize, cells: &[u8], tags: &[u32], table: &mut [u8]) -> Outcome {
+    read(COUNT, unsafe {
+        ffi::haplotypes_pack(n, cells.as_ptr(), cells.len(), tags.as_ptr(), tags.len(), table.as_mut_ptr(), table.len())
+    })
+}
+
+/// The first whole record with the tag, as those very bytes of the table; the empty part at its end where none has it. Refuses nothing.
+///
+/// ```
+/// use haplotypes::{find, pack};
+///
+/// let mut table = [0; 64];
+/// pack(1, &[1, 2], &[7, 8], &mut table);
+/// assert_eq!(find(8, &table), &table[32..]);
+/// assert!(find(9, &table).is_empty());
+/// ```
+pub fn find(tag: u32, table: &[u8]) -> &[u8] {
+    let start = unsafe { ffi::haplotypes_find(tag, table.as_ptr(), table.len()) };
+    let end = if start < table.len() { start + RECORD } else { start };
+    &table[start..end]
+}
+
+/// Is the table error-free: can its fragments be put in two classes with no conflict inside a class? Accepted with 0 for yes, and the answer;
+/// with 1 for no, and the answer untouched.
+///
+/// ```
+/// use haplotypes::{answer_length, check, pack, Outcome};
+///
+/// let mut table = [0; 64];
+/// pack(1, &[1, 2], &[7, 8], &mut table); // A, B
+/// let mut answer = [0; answer_length(1, 2)];
+/// assert_eq!(check(1, &table, &mut answer), Outcome::Accepted(0));
+/// assert_eq!(answer, [1, 1, 2, 1, 2, 0, 0]); // kept; A; B; sides 1 and 2; one block
+/// ```
+pub fn check(n: usize, table: &[u8], answer: &mut [u8]) -> Outcome {
+    read(CHECK, unsafe { ffi::haplotypes_check(n, table.as_ptr(), table.len(), answer.as_mut_ptr(), answer.len()) })
+}
+
+/// S: the fewest columns to remove so that the rest is error-free. Accepted with their number, the answer, and the work all zero.
+pub fn least_snp_removal(n: usize, table: &[u8], work: &mut [u16], answer: &mut [u8]) -> Outcome {
+    read(COUNT, unsafe {
+        ffi::haplotypes_least_snp_removal(
+            n,
+            table.as_ptr(),
+            table.len(),
+            work.as_mut_ptr(),
+            work.len(),
+            answer.as_mut_ptr(),
+            answer.len(),
+        )
+    })
+}
+
+/// F: the fewest fragments to remove so that the rest is error-free. Accepted with their number, the answer, and the work all zero.
+///
+/// Have 304 KiB of stack free. A thread of Rust's own making has 2 MiB; where one has too little, the program ends as by any overflow of the stack.
+///
+/// ```
+/// use haplotypes::{answer_length, least_fragment_removal, pack, Outcome, WORK};
+///
+/// let mut table = [0; 96];
+/// pack(3, &[1, 1, 0, 2, 1, 1, 0, 2, 2], &[10, 11, 12], &mut table); // AA-, BAA, -BB
+/// let (mut work, mut answer) = (vec![0; WORK], [0; answer_length(3, 3)]);
+/// assert_eq!(least_fragment_removal(3, &table, &mut work, &mut answer), Outcome::Accepted(1));
+/// assert_eq!(answer[9..12], [1, 2, 0]); // the third goes
+/// ```
+pub fn least_fragment_removal(n: usize, table: &[u8], work: &mut [u16], answer: &mut [u8]) -> Outcome {
+    read(COUNT, unsafe {
+        ffi::haplotypes_least_fragment_removal(
+            n,
+            table.as_ptr(),
+            table.len(),
+            work.as_mut_ptr(),
+            work.len(),
+            answer.as_mut_ptr(),
+            answer.len(),
+        )
+    })
+}
+
+/// C: the fewest calls to correct, A to B or B to A, so that the table is error-free. Accepted with their number, the answer, the corrected
+/// table (as long as the table given), and the work all zero.
+///
+/// ```
+/// use haplotypes::{answer_length, least_corrections, pack, unpack, Outcome, WORK};
+///
+/// let mut table = [0; 96];
+/// pack(3, &[1, 1, 0, 2, 1, 1, 0, 2, 2], &[10, 11, 12], &mut table); // AA-, BAA, -BB
+/// let (mut work, mut answer, mut corrected) = (vec![0; WORK], [0; answer_length(3, 3)], [0; 96]);
+/// let outcome = least_corrections(3, &table, &mut work, &mut answer, &mut corrected);
+/// assert_eq!(outcome, Outcome::Accepted(1));
+/// let (mut cells, mut tags) = ([0; 9], [0; 3]);
+/// unpack(3, &corrected, &mut cells, &mut tags);
+/// assert_eq!(cells, [1, 1, 0, 1, 1, 1, 0, 2, 2]); // BAA becomes AAA
+/// ```
+pub fn least_corrections(n: usize, table: &[u8], work: &mut [u16], answer: &mut [u8], corrected: &mut [u8]) -> Outcome {
+    read(COUNT, unsafe {
+        ffi::haplotypes_least_corrections(
+            n,
+            table.as_ptr(),
+            table.len(),
+            work.as_mut_ptr(),
+            work.len(),
+            answer.as_mut_ptr(),
+            answer.len(),
+            corrected.as_mut_ptr(),
+            corrected.len(),
+        )
+    })
+}

@@ -1,0 +1,61 @@
+//! What a call returns.
+
+use std::fmt;
+
+/// An acceptance with its count, or a refusal with its number and place. A refusal has written nothing.
+///
+/// | number | refused | place |
+/// |---|---|---|
+/// | 1 | the table's bytes are not a multiple of 32; pack: the cells are not m × n | 0 |
+/// | 2, 3 | over 128 fragments; over 128 columns | 0 |
+/// | 4 | out of frame: span over 96, start + span over n, or a start without calls | the fragment |
+/// | 5 | stray bits: byte 7, or a cell after the span, is not 0 | the fragment |
+/// | 6 | an unknown call: a code over 2 | the fragment |
+/// | 7 | an open end: the span's first or last cell is a hole | the fragment |
+/// | 8 | gapped: a hole between two calls | the fragment |
+/// | 9 | the tag of an earlier fragment | the fragment |
+/// | 10 | work under [`WORK`](crate::WORK) numbers | 0 |
+/// | 11 | the length of an output is not exact | 0 |
+/// | 12 | C alone: over 8 calls in a column | the column |
+#[derive(Clone, Copy, PartialEq, Eq, Debug)]
+pub enum Outcome {
+    Accepted(usize),
+    /// number, place
+    Refused(u8, usize),
+}
+
+impl fmt::Display for Outcome {
+    fn fmt(&self, out: &mut fmt::Formatter) -> fmt::Result {
+        match self {
+            Outcome::Accepted(count) => write!(out, "accepted {count}"),
+            Outcome::Refused(number, place) => write!(out, "refused {number} at {place}"),
+        }
+    }
+}
+
+/// An outcome from the number that an export returns: a count below `base`, or `base` × number + place.
+pub(crate) fn read(base: u64, number: u64) -> Outcome {
+    if number < base {
+        Outcome::Accepted(number as usize)
+    } else {
+        Outcome::Refused((number / base) as u8, (number % base) as usize)
+    }
+}
+
+#[cfg(test)]
+mod tests {
+    use super::*;
+
+    #[test]
+    fn numbers_are_read() {
+        let check = |number| read(1000, number);
+        assert_eq!(check(0), Outcome::Accepted(0));
+        assert_eq!(check(1), Outcome::Accepted(1));
+        assert_eq!(check(1000), Outcome::Refused(1, 0));
+        assert_eq!(check(8127), Outcome::Refused(8, 127));
+        let count = |number| read(1 << 32, number);
+        assert_eq!(count(16384), Outcome::Accepted(16384));
+        assert_eq!(count(1 << 32), Outcome::Refused(1, 0));
+        assert_eq!(count((12 << 32) + 127), Outcome::Refused(12, 127));
+    }
+}
