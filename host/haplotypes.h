@@ -1,4 +1,47 @@
-/* The service check, for a host written in C or C++. Link target/staticlib/libhaplotypes.a, which `rt staticlib haplotypes` writes. */
+/* Pikondaur's seven services for programs in C (C11 and later) and C++ (C++17 and later).
+ * Link target/staticlib/libhaplotypes.a, which `rt staticlib haplotypes` writes. It needs nothing but the C library's memset.
+ *
+ * Tables. A table has m fragments of 32 bytes each and n columns (SNPs), m and n at most 128. Its bytes tell m; n comes with the call. Numbers
+ * in it are little-endian; columns and positions of fragments count from 0.
+ *
+ *   bytes 0-3   tag, another in each record         byte  7      0
+ *   bytes 4-5   start, the first called column      bytes 8-31   96 cells of two bits: 0 a hole, 1 A, 2 B
+ *   byte  6     span, 0 to 96
+ *
+ * Cell i stands in byte 8 + i / 4, at the two bits from bit 2 * (i % 4) on, and belongs to column start + i. All cells of the span are calls, and
+ * those after it 0. A fragment without calls has span 0 and start 0.
+ *
+ * Answers. An answer has 3n + 2m bytes, in five sections:
+ *
+ *   keep marks    n   1 a kept column, 0 a removed one (by S alone)
+ *   haplotype 1   n   1 A, 2 B (after correction, for C), 0 where no kept fragment of side 1 has a call, 3 at a removed column
+ *   haplotype 2   n   the same of side 2
+ *   sides         m   1 or 2, 0 for a removed fragment (by F alone)
+ *   blocks        m   the position of the block's first fragment, 255 for a removed fragment; sides of different blocks say nothing of each other
+ *
+ * What a call returns. check: a verdict, 0 for yes, 1 for no, 1000 * number + place for a refusal. find: an offset. The others: a count, below
+ * 2^32, or 2^32 * number + place for a refusal. The two forms differ, so each has a type, and readers by the type's name, below.
+ *
+ * What is written. A refusal, and a no from check, leave every byte as it was. Every other call writes every byte of every output, whatever stood
+ * there before: outputs need not be cleared. Nothing else is written.
+ *
+ * What the caller must see to, in every call. Nothing checks it, and the library is proved only where it holds:
+ *   - Each pointer is valid for its length, aligned for its type, and never null, not even for length 0. A length counts elements: bytes, or
+ *     32-bit tags, or 16-bit numbers of work. All bytes of a buffer together are fewer than 2^63.
+ *   - An output overlaps no other buffer of the call. Inputs may overlap each other.
+ *   - Until the call returns nothing else writes to its buffers, and nothing else reads its outputs.
+ *   - The stack that the service takes is free (below).
+ * Threads: any number of them may make any calls at once, each with outputs of its own, and share inputs. The library has no variables: nothing
+ * is kept between calls.
+ *
+ * Refusals. The first rule that is broken decides:
+ *
+ *   unpack, check   3, 1, 2, 11; then the records from 0 on, each by 4, 5, 6, 7, 8, 9
+ *   S, F            3, 1, 2, 10, 11; then the records as above
+ *   C               as S and F; then 12
+ *   pack            3, 1, 2, 11; then the fragments from 0 on, each by 6, 4, 8, 9
+ *   find            refuses nothing
+ */
 #ifndef PIKONDAUR_HAPLOTYPES_H
 #define PIKONDAUR_HAPLOTYPES_H
 
@@ -9,31 +52,141 @@
 extern "C" {
 #endif
 
-/* Can the fragments of a table with n columns be put in two classes with no conflict inside a class?
+enum {
+    HAPLOTYPES_RECORD = 32,         /* bytes of a fragment in a table */
+    HAPLOTYPES_MOST_FRAGMENTS = 128,
+    HAPLOTYPES_MOST_COLUMNS = 128,
+    HAPLOTYPES_WORK = 32768         /* the least numbers of a work buffer: 64 KiB */
+};
+
+/* codes of cells and haplotypes, and the marks of what is removed */
+enum {
+    HAPLOTYPES_HOLE = 0,
+    HAPLOTYPES_A = 1,
+    HAPLOTYPES_B = 2,
+    HAPLOTYPES_REMOVED_CODE = 3,    /* in a haplotype */
+    HAPLOTYPES_REMOVED_SIDE = 0,
+    HAPLOTYPES_REMOVED_BLOCK = 255
+};
+
+/* The refusals by their numbers. The place is the fragment's position for 4 to 9, the lowest such column for 12, and else 0. */
+enum {
+    HAPLOTYPES_ACCEPTED = 0,            /* none */
+    HAPLOTYPES_RAGGED = 1,              /* bytes not a multiple of 32; for pack, cells not m * n */
+    HAPLOTYPES_TOO_MANY_FRAGMENTS = 2,  /* m over 128 */
+    HAPLOTYPES_TOO_MANY_SNPS = 3,       /* n over 128 */
+    HAPLOTYPES_OUT_OF_FRAME = 4,        /* span over 96; start + span over n; span 0 and start not 0; for pack, calls over more than 96 columns */
+    HAPLOTYPES_STRAY_BITS = 5,          /* byte 7, or a cell after the span, is not 0 */
+    HAPLOTYPES_UNKNOWN_CALL = 6,        /* code 3 in the span; for pack, a cell over 2 */
+    HAPLOTYPES_OPEN_END = 7,            /* the span's first or last cell is a hole */
+    HAPLOTYPES_GAPPED = 8,              /* a hole between two calls */
+    HAPLOTYPES_TAG_TWICE = 9,           /* the tag of an earlier fragment */
+    HAPLOTYPES_SHORT_WORK = 10,         /* work under 32768 numbers */
+    HAPLOTYPES_WRONG_BUFFER = 11,       /* an output's length is not exact */
+    HAPLOTYPES_TOO_DEEP = 12            /* by C alone: over 8 calls in a column */
+};
+
+/* The bytes of stack that must be free below the caller's frame: what was measured on full tables, with some room. host/stack/test measures
+ * again and holds every service to its figure. F's words alone are 266,256 bytes, more than the whole stack of a thread on some systems. A thread's
+ * own frames, and its thread-local variables where the C library puts them on the stack, come on top.
  *
- *   0                     yes; the answer's 3n + 2m bytes are filled
- *   1                     no; the answer is untouched
- *   1000 * number + place a refusal by its number and place; the answer is untouched
- *
- * The table is 32 bytes to a fragment, m of them. The answer must have exactly 3n + 2m bytes: n keep marks, haplotypes 1 and 2 of
- * n codes each (0 hole, 1 A, 2 B), m sides (1 or 2), m blocks (a block is named by its first fragment's position).
- *
- * Refusals, in the order in which they are tested. The place is 0 for 1, 2, 3 and 11, and the record's position, from 0, for 4 to 9.
- *
- *    3  over 128 columns                          1  the table's bytes are not a multiple of 32
- *    2  over 128 fragments                       11  the answer's length is not 3n + 2m
- *    4  a record out of frame: span over 96, start + span over n, or a start without calls
- *    5  stray bits: byte 7, or a cell after the span, is not 0
- *    6  an unknown call: code 3                   7  the span's first or last cell is a hole
- *    8  a hole between two calls                  9  the tag of an earlier record
- *
- * What the caller must see to, since nothing checks it and the library is proved only where it holds:
- *   - both pointers are valid for their lengths, and not null, even for length 0;
- *   - each length is below 2^63;
- *   - the table and the answer do not overlap, and nothing else writes to either, or reads the answer, until the call returns;
- *   - 40 KiB of stack are free (33,912 bytes were measured; host/stack/test measures it again).
- * Several threads may call it at once, each with an answer of its own: the library keeps nothing between calls. Threads may share a table. */
-uint64_t haplotypes_check(size_t n, const uint8_t *table, size_t table_length, uint8_t *answer, size_t answer_length);
+ * Where there is less, the call touches the page below the stack before anything further down, and the system ends the program (SIGSEGV): it
+ * returns no wrong number and writes to no other memory. Outputs may be written in part by then, for a program that goes on all the same. This takes
+ * an inaccessible page below the stack. The system has one below the first thread's stack and each that it makes; memory that a program lends as a
+ * stack itself (pthread_attr_setstack, makecontext) needs one too. */
+enum {
+    HAPLOTYPES_STACK_UNPACK = 8 * 1024,
+    HAPLOTYPES_STACK_PACK = 8 * 1024,
+    HAPLOTYPES_STACK_FIND = 8 * 1024,
+    HAPLOTYPES_STACK_CHECK = 40 * 1024,
+    HAPLOTYPES_STACK_LEAST_SNP_REMOVAL = 40 * 1024,
+    HAPLOTYPES_STACK_LEAST_FRAGMENT_REMOVAL = 304 * 1024,
+    HAPLOTYPES_STACK_LEAST_CORRECTIONS = 64 * 1024
+};
+
+typedef uint64_t haplotypes_verdict; /* what check returns */
+typedef uint64_t haplotypes_count;   /* what unpack, pack, S, F and C return */
+
+/* A null pointer, or a result that nobody reads, is a warning. */
+#ifdef __GNUC__
+#define HAPLOTYPES_SERVICE __attribute__((nonnull, warn_unused_result))
+#else
+#define HAPLOTYPES_SERVICE
+#endif
+
+/* The table's m * n cells, one byte each by fragment and then column, and its m tags. Returns m.
+ * Exact: cells_length is m * n and tags_length is m, or the call is refused (11). */
+HAPLOTYPES_SERVICE haplotypes_count haplotypes_unpack(size_t n, const uint8_t *table, size_t table_length,
+                                                      uint8_t *cells, size_t cells_length, uint32_t *tags, size_t tags_length);
+
+/* The table of m fragments, m being tags_length, from their cells and tags: the reverse of unpack. Returns m.
+ * Exact: cells_length is m * n, or the call is refused (1), and table_length is 32 * m (11). */
+HAPLOTYPES_SERVICE haplotypes_count haplotypes_pack(size_t n, const uint8_t *cells, size_t cells_length,
+                                                    const uint32_t *tags, size_t tags_length, uint8_t *table, size_t table_length);
+
+/* The byte at which the first whole record with the tag starts; table_length where none has it.
+ * Takes any bytes, whole records or not; what follows the last whole record is not looked at. */
+HAPLOTYPES_SERVICE size_t haplotypes_find(uint32_t tag, const uint8_t *table, size_t table_length);
+
+/* Can the table's fragments be put in two classes with no conflict inside a class? On a yes the answer has the first such classes as sides;
+ * a no leaves it as it was.
+ * Exact: answer_length is 3n + 2m, or the call is refused (11). */
+HAPLOTYPES_SERVICE haplotypes_verdict haplotypes_check(size_t n, const uint8_t *table, size_t table_length, uint8_t *answer, size_t answer_length);
+
+/* S: the fewest columns to remove so that the rest is error-free. Returns their number, which is that of the keep marks 0.
+ * Exact: answer_length is 3n + 2m, or the call is refused (11). Work has HAPLOTYPES_WORK numbers or more (10), and is all 0 afterwards. */
+HAPLOTYPES_SERVICE haplotypes_count haplotypes_least_snp_removal(size_t n, const uint8_t *table, size_t table_length,
+                                                                 uint16_t *work, size_t work_length, uint8_t *answer, size_t answer_length);
+
+/* F: the fewest fragments to remove so that the rest is error-free. Returns their number, which is that of the sides 0.
+ * Lengths and work as for S. Takes 304 KiB of stack. */
+HAPLOTYPES_SERVICE haplotypes_count haplotypes_least_fragment_removal(size_t n, const uint8_t *table, size_t table_length,
+                                                                      uint16_t *work, size_t work_length, uint8_t *answer, size_t answer_length);
+
+/* C: the fewest calls to correct, A to B or B to A, so that the table is error-free. Returns their number, which is that of the cells in which the
+ * corrected table differs from the one given; no other bit differs.
+ * Lengths and work as for S, and corrected_length is table_length (11). */
+HAPLOTYPES_SERVICE haplotypes_count haplotypes_least_corrections(size_t n, const uint8_t *table, size_t table_length,
+                                                                 uint16_t *work, size_t work_length, uint8_t *answer, size_t answer_length,
+                                                                 uint8_t *corrected, size_t corrected_length);
+
+/* ---- readers of a count, from unpack, pack, S, F and C. An accepted count is the number itself. */
+
+static inline int haplotypes_count_accepted(haplotypes_count count) { return count >> 32 == 0; }
+
+/* a refusal's number, or HAPLOTYPES_ACCEPTED */
+static inline uint64_t haplotypes_count_refusal(haplotypes_count count) { return count >> 32; }
+
+/* a refusal's place, and 0 where there is none */
+static inline uint64_t haplotypes_count_place(haplotypes_count count) { return haplotypes_count_accepted(count) ? 0 : count & UINT32_MAX; }
+
+/* ---- readers of a verdict, from check */
+
+static inline int haplotypes_verdict_yes(haplotypes_verdict verdict) { return verdict == 0; }
+
+static inline int haplotypes_verdict_no(haplotypes_verdict verdict) { return verdict == 1; }
+
+/* a refusal's number, or HAPLOTYPES_ACCEPTED for a yes or a no */
+static inline uint64_t haplotypes_verdict_refusal(haplotypes_verdict verdict) { return verdict / 1000; }
+
+/* a refusal's place, and 0 where there is none */
+static inline uint64_t haplotypes_verdict_place(haplotypes_verdict verdict) { return verdict < 1000 ? 0 : verdict % 1000; }
+
+/* ---- an answer's length, and where its sections start */
+
+static inline size_t haplotypes_answer_length(size_t n, size_t m) { return 3 * n + 2 * m; }
+
+static inline size_t haplotypes_answer_keep_marks(void) { return 0; }
+
+static inline size_t haplotypes_answer_haplotype_1(size_t n) { return n; }
+
+static inline size_t haplotypes_answer_haplotype_2(size_t n) { return 2 * n; }
+
+static inline size_t haplotypes_answer_sides(size_t n) { return 3 * n; }
+
+static inline size_t haplotypes_answer_blocks(size_t n, size_t m) { return 3 * n + m; }
+
+#undef HAPLOTYPES_SERVICE
 
 #ifdef __cplusplus
 }
