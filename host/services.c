@@ -1,0 +1,352 @@
+/* Calls every service through haplotypes.h: what is returned, and every byte of every buffer. C11 and C++17.
+ * Buffers are exact allocations, so that a sanitizer or valgrind sees any byte beyond them. They are dirty before a call; an accepted call is made
+ * once more on buffers that were never written, where valgrind sees a byte that is read before it is written, or is left out.
+ * Prints the number of cases; a case that fails ends the program with status 1, the case's name and the byte. */
+#include "calling.h"
+
+#include <inttypes.h>
+#include <string.h>
+
+#define COUNT(array) (sizeof(array) / sizeof((array)[0]))
+#define ALL(array) {array, sizeof(array)}
+#define NONE {"", 0}
+#define LEFT(length) {NULL, length} /* an output that the call must leave as it was */
+#define REFUSED(number, place) ((UINT64_C(1) << 32) * (number) + (place))
+#define CHECK_REFUSED(number, place) (1000 * (number) + (place))
+#define RECORD(tag, start, span, cells) {tag, 0, 0, 0, start, 0, span, 0, cells} /* the first four cells in a byte */
+
+struct row {
+    const char *name;
+    enum service service;
+    size_t n; /* for find, the tag */
+    uint64_t code;
+    struct given in[GIVEN];
+    struct given out[LENT]; /* what each output holds after the call */
+};
+
+static unsigned cases;
+
+/* ---- tables, and the bytes that the services make of them */
+
+/* AA-, BAA, -BB: the table printed in the paper, and its listing */
+static const uint8_t printed[][32] = {RECORD(10, 0, 2, 0x05), RECORD(11, 0, 3, 0x16), RECORD(12, 1, 2, 0x0A)};
+static const uint8_t printed_cells[] = {1, 1, 0, 2, 1, 1, 0, 2, 2};
+static const uint32_t printed_tags[] = {10, 11, 12};
+static const uint8_t printed_s[] = {1, 0, 1, 1, 3, 2, 2, 3, 1, 1, 2, 1, 0, 0, 0};   /* 101 A#B B#A 121 0,0,0 */
+static const uint8_t printed_f[] = {1, 1, 1, 1, 1, 0, 2, 1, 1, 1, 2, 0, 0, 0, 255}; /* 111 AA- BAA 120 0,0,- */
+static const uint8_t printed_c[] = {1, 1, 1, 1, 1, 1, 0, 2, 2, 1, 1, 2, 0, 0, 0};   /* 111 AAA -BB 112 0,0,0 */
+static const uint8_t corrected[][32] = {RECORD(10, 0, 2, 0x05), RECORD(11, 0, 3, 0x15), RECORD(12, 1, 2, 0x0A)};
+static const uint16_t work[HAPLOTYPES_WORK] = {0}, more_work[HAPLOTYPES_WORK + 1] = {0};
+
+static const uint8_t pair[][32] = {RECORD(1, 0, 1, 1), RECORD(2, 0, 1, 2)}; /* A, B */
+static const uint8_t pair_answer[] = {1, 1, 2, 1, 2, 0, 0};
+static const uint8_t same[][32] = {RECORD(1, 0, 2, 5), RECORD(2, 0, 2, 5)}; /* AA, AA */
+static const uint8_t same_answer[] = {1, 1, 1, 1, 0, 0, 1, 1, 0, 0};
+static const uint8_t apart[][32] = {RECORD(1, 0, 1, 1), RECORD(2, 2, 1, 2), RECORD(3, 0, 0, 0)}; /* A--, --B, --- */
+static const uint8_t apart_answer[] = {1, 1, 1, 1, 0, 2, 0, 0, 0, 1, 1, 1, 0, 1, 2};
+static const uint8_t wide_tags[][32] = {{0xEF, 0xCD, 0xAB, 0x89}, {0xFF, 0xFF, 0xFF, 0xFF}};
+static const uint32_t wide_tags_read[] = {0x89ABCDEF, 0xFFFFFFFF};
+
+static const uint8_t long_span[][32] = {RECORD(1, 0, 97, 1)};
+static const uint8_t start_alone[][32] = {RECORD(1, 1, 0, 0)};
+static const uint8_t byte_7[][32] = {RECORD(1, 0, 1, 1), {2, 0, 0, 0, 0, 0, 1, 1, 1}};
+static const uint8_t stray_cell[][32] = {RECORD(1, 0, 1, 5)};
+static const uint8_t unknown[][32] = {RECORD(1, 0, 1, 3)};
+static const uint8_t open_end[][32] = {RECORD(1, 0, 2, 1)};
+static const uint8_t gapped[][32] = {RECORD(1, 0, 2, 9), RECORD(2, 1, 2, 9), RECORD(3, 0, 3, 18)}; /* AB-, -AB, B-A */
+static const uint8_t twice[][32] = {RECORD(1, 0, 1, 1), RECORD(1, 0, 1, 2)};
+
+static const uint8_t gapped_cells[] = {1, 2, 0, 0, 1, 2, 2, 0, 1}, unknown_cells[] = {1, 1, 0, 2, 3, 1, 0, 2, 2};
+static const uint32_t same_tags[] = {10, 11, 10};
+
+/* made at the start: 129 fragments A at column 0, the answer of 128 of them for 1 and for 128 columns; a row of calls at 97 columns */
+static uint8_t crowd[129][32], crowd_answer[3 + 256], wide_crowd_answer[3 * 128 + 256], long_row[97];
+
+static void make_tables(void)
+{
+    for (size_t i = 0; i < COUNT(crowd); i++) {
+        crowd[i][0] = (uint8_t)i;
+        crowd[i][6] = crowd[i][8] = 1;
+    }
+    crowd_answer[0] = crowd_answer[1] = 1;
+    memset(crowd_answer + 3, 1, 128);
+    memset(wide_crowd_answer, 1, 128 + 1);
+    memset(wide_crowd_answer + 3 * 128, 1, 128);
+    memset(long_row, 2, sizeof long_row);
+}
+
+/* ---- calls by hand: one line each */
+
+static const struct row rows[] = {
+    {"unpack", UNPACK, 3, 3, {ALL(printed), NONE}, {ALL(printed_cells), ALL(printed_tags), NONE}},
+    {"unpack no records", UNPACK, 0, 0, {NONE, NONE}, {NONE, NONE, NONE}},
+    {"unpack tags of four bytes", UNPACK, 0, 2, {ALL(wide_tags), NONE}, {NONE, ALL(wide_tags_read), NONE}},
+
+    {"pack", PACK, 3, 3, {ALL(printed_cells), ALL(printed_tags)}, {ALL(printed), NONE, NONE}},
+    {"pack no fragments", PACK, 0, 0, {NONE, NONE}, {NONE, NONE, NONE}},
+    {"pack tags of four bytes", PACK, 0, 2, {NONE, ALL(wide_tags_read)}, {ALL(wide_tags), NONE, NONE}},
+    {"pack 129 columns", PACK, 129, REFUSED(3, 0), {ALL(printed_cells), ALL(printed_tags)}, {LEFT(96), NONE, NONE}},
+    {"pack 9 cells for 2 columns", PACK, 2, REFUSED(1, 0), {ALL(printed_cells), ALL(printed_tags)}, {LEFT(96), NONE, NONE}},
+    {"pack 129 fragments", PACK, 0, REFUSED(2, 0), {NONE, {work, 4 * 129}}, {LEFT(32 * 129), NONE, NONE}},
+    {"pack an unknown call", PACK, 3, REFUSED(6, 1), {ALL(unknown_cells), ALL(printed_tags)}, {LEFT(96), NONE, NONE}},
+    {"pack calls over 97 columns", PACK, 97, REFUSED(4, 0), {ALL(long_row), {printed_tags, 4}}, {LEFT(32), NONE, NONE}},
+    {"pack a gapped fragment", PACK, 3, REFUSED(8, 2), {ALL(gapped_cells), ALL(printed_tags)}, {LEFT(96), NONE, NONE}},
+    {"pack a tag twice", PACK, 3, REFUSED(9, 2), {ALL(printed_cells), ALL(same_tags)}, {LEFT(96), NONE, NONE}},
+
+    {"find the first record", FIND, 10, 0, {ALL(printed), NONE}, {NONE, NONE, NONE}},
+    {"find the last record", FIND, 12, 64, {ALL(printed), NONE}, {NONE, NONE, NONE}},
+    {"find the first of two", FIND, 1, 0, {ALL(twice), NONE}, {NONE, NONE, NONE}},
+    {"find a tag of four bytes", FIND, 0xFFFFFFFF, 32, {ALL(wide_tags), NONE}, {NONE, NONE, NONE}},
+    {"find an absent tag", FIND, 13, 96, {ALL(printed), NONE}, {NONE, NONE, NONE}},
+    {"find a tag before a ragged end", FIND, 11, 32, {{printed, 95}, NONE}, {NONE, NONE, NONE}},
+    {"find a tag in a ragged end", FIND, 12, 95, {{printed, 95}, NONE}, {NONE, NONE, NONE}},
+    {"find in no bytes", FIND, 0, 0, {NONE, NONE}, {NONE, NONE, NONE}},
+
+    {"check printed", CHECK, 3, 1, {ALL(printed), NONE}, {LEFT(15), NONE, NONE}},
+    {"check pair", CHECK, 1, 0, {ALL(pair), NONE}, {ALL(pair_answer), NONE, NONE}},
+    {"check same", CHECK, 2, 0, {ALL(same), NONE}, {ALL(same_answer), NONE, NONE}},
+    {"check apart", CHECK, 3, 0, {ALL(apart), NONE}, {ALL(apart_answer), NONE, NONE}},
+    {"check corrected", CHECK, 3, 0, {ALL(corrected), NONE}, {ALL(printed_c), NONE, NONE}},
+    {"check empty", CHECK, 0, 0, {NONE, NONE}, {NONE, NONE, NONE}},
+    {"check 128 fragments", CHECK, 1, 0, {{crowd, 32 * 128}, NONE}, {ALL(crowd_answer), NONE, NONE}},
+    {"check 128 fragments, 128 columns", CHECK, 128, 0, {{crowd, 32 * 128}, NONE}, {ALL(wide_crowd_answer), NONE, NONE}},
+
+    {"S", SNPS, 3, 1, {ALL(printed), NONE}, {ALL(work), ALL(printed_s), NONE}},
+    {"S with more work", SNPS, 3, 1, {ALL(printed), NONE}, {ALL(more_work), ALL(printed_s), NONE}},
+    {"S of no records", SNPS, 0, 0, {NONE, NONE}, {ALL(work), NONE, NONE}},
+    {"S of 128 fragments, 128 columns", SNPS, 128, 0, {{crowd, 32 * 128}, NONE}, {ALL(work), ALL(wide_crowd_answer), NONE}},
+
+    {"F", FRAGMENTS, 3, 1, {ALL(printed), NONE}, {ALL(work), ALL(printed_f), NONE}},
+    {"F with more work", FRAGMENTS, 3, 1, {ALL(printed), NONE}, {ALL(more_work), ALL(printed_f), NONE}},
+    {"F of no records", FRAGMENTS, 0, 0, {NONE, NONE}, {ALL(work), NONE, NONE}},
+    {"F of 128 fragments, 128 columns", FRAGMENTS, 128, 0, {{crowd, 32 * 128}, NONE}, {ALL(work), ALL(wide_crowd_answer), NONE}},
+
+    {"C", CORRECTIONS, 3, 1, {ALL(printed), NONE}, {ALL(work), ALL(printed_c), ALL(corrected)}},
+    {"C with more work", CORRECTIONS, 3, 1, {ALL(printed), NONE}, {ALL(more_work), ALL(printed_c), ALL(corrected)}},
+    {"C of no records", CORRECTIONS, 0, 0, {NONE, NONE}, {ALL(work), NONE, NONE}},
+    {"C of 9 calls in a column", CORRECTIONS, 1, REFUSED(12, 0), {{crowd, 32 * 9}, NONE}, {LEFT(65536), LEFT(21), LEFT(32 * 9)}},
+};
+
+/* Tables that unpack, check, S, F and C refuse alike. */
+static const struct {
+    const char *name;
+    size_t n;
+    struct given table;
+    uint32_t number, place;
+} refused[] = {
+    {"129 columns", 129, ALL(pair), 3, 0},
+    {"129 columns before ragged", 129, {printed, 33}, 3, 0},
+    {"ragged", 3, {printed, 33}, 1, 0},
+    {"129 fragments", 1, ALL(crowd), 2, 0},
+    {"no columns for its calls", 0, ALL(pair), 4, 0},
+    {"a span of 97", 128, ALL(long_span), 4, 0},
+    {"a start without calls", 3, ALL(start_alone), 4, 0},
+    {"byte 7", 1, ALL(byte_7), 5, 1},
+    {"a cell after the span", 2, ALL(stray_cell), 5, 0},
+    {"an unknown call", 1, ALL(unknown), 6, 0},
+    {"an open end", 2, ALL(open_end), 7, 0},
+    {"gapped", 3, ALL(gapped), 8, 2},
+    {"a tag twice", 1, ALL(twice), 9, 1},
+};
+
+/* ---- a case */
+
+/* a byte that no service has put there: another at each place */
+static uint8_t dirt(size_t place) { return (uint8_t)(157 + 31 * place); }
+
+static void make_dirty(void *bytes, size_t length)
+{
+    for (size_t i = 0; i < length; i++)
+        ((uint8_t *)bytes)[i] = dirt(i);
+}
+
+static void same_bytes(const char *name, const char *buffer, const void *found, const void *expected, size_t length)
+{
+    const uint8_t *bytes = (const uint8_t *)found, *wanted = (const uint8_t *)expected;
+    for (size_t i = 0; i < length; i++) {
+        const uint8_t byte = wanted ? wanted[i] : dirt(i);
+        if (bytes[i] != byte) {
+            fprintf(stderr, "host: %s: byte %zu of the %s is %u, expected %u%s\n", name, i, buffer, bytes[i], byte, wanted ? "" : ", as before");
+            exit(1);
+        }
+    }
+}
+
+static void same_number(const char *name, const char *what, uint64_t found, uint64_t expected)
+{
+    if (found != expected) {
+        fprintf(stderr, "host: %s: %s is %" PRIu64 ", expected %" PRIu64 "\n", name, what, found, expected);
+        exit(1);
+    }
+}
+
+/* The call of a row, on dirty outputs or on fresh ones. */
+static void make_call(const struct row *row, int dirty)
+{
+    struct given in[GIVEN];
+    struct lent out[LENT];
+    for (size_t k = 0; k < GIVEN; k++) {
+        void *copy = room(row->in[k].length);
+        memcpy(copy, row->in[k].bytes, row->in[k].length);
+        in[k].bytes = copy;
+        in[k].length = row->in[k].length;
+    }
+    for (size_t k = 0; k < LENT; k++) {
+        out[k].length = row->out[k].length;
+        out[k].bytes = room(out[k].length);
+        if (dirty)
+            make_dirty(out[k].bytes, out[k].length ? out[k].length : 1);
+    }
+    same_number(row->name, "what it returns", call(row->service, row->n, in, out), row->code);
+    for (size_t k = 0; k < GIVEN; k++) {
+        same_bytes(row->name, k == 0 ? "first input" : "second input", in[k].bytes, row->in[k].bytes, in[k].length);
+        free((void *)in[k].bytes);
+    }
+    for (size_t k = 0; k < LENT; k++) {
+        if (dirty && out[k].length == 0)
+            same_bytes(row->name, "place after an empty output", out[k].bytes, NULL, 1);
+        same_bytes(row->name, service_outputs[row->service][k].name, out[k].bytes, row->out[k].bytes, out[k].length);
+        free(out[k].bytes);
+    }
+}
+
+static void test_row(const struct row *row)
+{
+    int written = 1;
+    for (size_t k = 0; k < LENT; k++)
+        written = written && row->out[k].bytes;
+    make_call(row, 1);
+    if (written)
+        make_call(row, 0);
+    cases++;
+}
+
+/* ---- cases made from the tables above */
+
+/* A table that is refused, with outputs of exact lengths. */
+static void test_refused(size_t i)
+{
+    static const enum service services[] = {UNPACK, CHECK, SNPS, FRAGMENTS, CORRECTIONS};
+    for (size_t s = 0; s < COUNT(services); s++) {
+        char name[80];
+        size_t lengths[LENT];
+        const uint32_t number = refused[i].number, place = refused[i].place;
+        const uint64_t code = services[s] == CHECK ? CHECK_REFUSED(number, place) : REFUSED(number, place);
+        struct row row = {name, services[s], refused[i].n, code, {refused[i].table, NONE}, {NONE, NONE, NONE}};
+        snprintf(name, sizeof name, "%s refuses %s", service_names[row.service], refused[i].name);
+        exact_lengths(row.service, row.n, refused[i].table.length / HAPLOTYPES_RECORD, lengths);
+        for (size_t k = 0; k < LENT; k++) {
+            row.out[k].bytes = NULL;
+            row.out[k].length = lengths[k];
+        }
+        test_row(&row);
+    }
+}
+
+/* A row whose k-th output is an element shorter or longer: refused, but for longer work, which has rows of its own. */
+static void test_length(const struct row *exact, size_t k, int longer)
+{
+    char name[80];
+    struct row row = *exact;
+    const struct output *output = &service_outputs[row.service][k];
+    const uint32_t number = output->unit == 2 ? HAPLOTYPES_SHORT_WORK : HAPLOTYPES_WRONG_BUFFER;
+    if (output->unit == 0 || (output->unit == 2 && longer))
+        return;
+    snprintf(name, sizeof name, "%s, its %s %s", exact->name, output->name, longer ? "longer" : "shorter");
+    row.name = name;
+    row.code = row.service == CHECK ? CHECK_REFUSED(number, 0) : REFUSED(number, 0);
+    row.out[k].length = longer ? row.out[k].length + output->unit : row.out[k].length - output->unit;
+    for (size_t j = 0; j < LENT; j++)
+        row.out[j].bytes = NULL;
+    test_row(&row);
+}
+
+static void test_lengths(void)
+{
+    static const char *const names[] = {"unpack", "pack", "check pair", "S", "F", "C"};
+    for (size_t i = 0; i < COUNT(rows); i++)
+        for (size_t j = 0; j < COUNT(names); j++)
+            for (size_t k = 0; strcmp(rows[i].name, names[j]) == 0 && k < LENT; k++) {
+                test_length(&rows[i], k, 0);
+                test_length(&rows[i], k, 1);
+            }
+}
+
+/* ---- the readers, the sections and the sizes */
+
+static const struct {
+    const char *name;
+    haplotypes_count count;
+    int accepted;
+    uint64_t number, place;
+} counts[] = {
+    {"count 0", 0, 1, HAPLOTYPES_ACCEPTED, 0},
+    {"the largest count", UINT64_C(4294967295), 1, HAPLOTYPES_ACCEPTED, 0},
+    {"refused 1 at 0", UINT64_C(4294967296), 0, HAPLOTYPES_RAGGED, 0},
+    {"refused 8 at 2", UINT64_C(34359738370), 0, HAPLOTYPES_GAPPED, 2},
+    {"refused 12 at 127", UINT64_C(51539607679), 0, HAPLOTYPES_TOO_DEEP, 127},
+};
+
+static const struct {
+    const char *name;
+    haplotypes_verdict verdict;
+    int yes, no;
+    uint64_t number, place;
+} verdicts[] = {
+    {"yes", 0, 1, 0, HAPLOTYPES_ACCEPTED, 0},
+    {"no", 1, 0, 1, HAPLOTYPES_ACCEPTED, 0},
+    {"check refused 1 at 0", 1000, 0, 0, HAPLOTYPES_RAGGED, 0},
+    {"check refused 9 at 127", 9127, 0, 0, HAPLOTYPES_TAG_TWICE, 127},
+    {"check refused 11 at 0", 11000, 0, 0, HAPLOTYPES_WRONG_BUFFER, 0},
+};
+
+static void test_readers(void)
+{
+    for (size_t i = 0; i < COUNT(counts); i++, cases++) {
+        same_number(counts[i].name, "accepted", (uint64_t)haplotypes_count_accepted(counts[i].count), (uint64_t)counts[i].accepted);
+        same_number(counts[i].name, "the number", haplotypes_count_refusal(counts[i].count), counts[i].number);
+        same_number(counts[i].name, "the place", haplotypes_count_place(counts[i].count), counts[i].place);
+    }
+    for (size_t i = 0; i < COUNT(verdicts); i++, cases++) {
+        same_number(verdicts[i].name, "yes", (uint64_t)haplotypes_verdict_yes(verdicts[i].verdict), (uint64_t)verdicts[i].yes);
+        same_number(verdicts[i].name, "no", (uint64_t)haplotypes_verdict_no(verdicts[i].verdict), (uint64_t)verdicts[i].no);
+        same_number(verdicts[i].name, "the number", haplotypes_verdict_refusal(verdicts[i].verdict), verdicts[i].number);
+        same_number(verdicts[i].name, "the place", haplotypes_verdict_place(verdicts[i].verdict), verdicts[i].place);
+    }
+}
+
+/* The sections of an answer for 3 columns and 4 fragments, and the sizes that the rows above write out. */
+static void test_numbers(void)
+{
+    const struct {
+        const char *name;
+        size_t found, expected;
+    } numbers[] = {
+        {"keep marks", haplotypes_answer_keep_marks(), 0},
+        {"haplotype 1", haplotypes_answer_haplotype_1(3), 3},
+        {"haplotype 2", haplotypes_answer_haplotype_2(3), 6},
+        {"sides", haplotypes_answer_sides(3), 9},
+        {"blocks", haplotypes_answer_blocks(3, 4), 13},
+        {"an answer", haplotypes_answer_length(3, 4), 17},
+        {"a record", HAPLOTYPES_RECORD, 32},
+        {"work", HAPLOTYPES_WORK, 32768},
+        {"most fragments", HAPLOTYPES_MOST_FRAGMENTS, 128},
+        {"most columns", HAPLOTYPES_MOST_COLUMNS, 128},
+    };
+    for (size_t i = 0; i < COUNT(numbers); i++, cases++)
+        same_number(numbers[i].name, "its place or length", numbers[i].found, numbers[i].expected);
+}
+
+int main(void)
+{
+    make_tables();
+    for (size_t i = 0; i < COUNT(rows); i++)
+        test_row(&rows[i]);
+    for (size_t i = 0; i < COUNT(refused); i++)
+        test_refused(i);
+    test_lengths();
+    test_readers();
+    test_numbers();
+    printf("%u\n", cases);
+    return 0;
+}
