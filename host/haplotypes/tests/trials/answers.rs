@@ -1,0 +1,182 @@
+//! Small tables with the whole answer of every service, also in other orders of the records.
+
+use crate::calls::Trials;
+use crate::expected::{Each, Expected};
+use crate::fixtures::Fixture;
+
+/// An error-free table: its name, its fragments, and the one answer of check, S, F and C.
+type ErrorFree = (&'static str, &'static [&'static str], &'static str);
+
+const ERROR_FREE: [ErrorFree; 17] = [
+    ("paper: no records, no columns", &[], ". . . . ."),
+    ("paper: A and B on one column", &["A", "B"], "1 A B 12 0,0"),
+    ("paper: AA and AA", &["AA", "AA"], "11 AA -- 11 0,0"),
+    ("paper: a column no one calls", &["A--", "--B"], "111 A-B --- 11 0,1"),
+    ("a column no one calls, between two that are mixed", &["A--", "B--", "--B", "--A"], "111 A-B B-A 1212 0,0,2,2"),
+    ("one B", &["B"], "1 B - 1 0"),
+    ("equal fragments", &["AA", "AA", "AA"], "11 AA -- 111 0,0,0"),
+    ("BB in the middle", &["AA", "BB", "AA"], "11 AA BB 121 0,0,0"),
+    ("BB first", &["BB", "AA", "AA"], "11 BB AA 122 0,0,0"),
+    ("a fragment without calls before the last", &["AA", "BB", "--", "BB"], "11 AA BB 1212 0,0,2,0"),
+    ("one fragment without calls", &["--"], "11 -- -- 1 0"),
+    ("only fragments without calls", &["--", "--", "--"], "11 -- -- 111 0,1,2"),
+    ("fragments, and no columns", &["", ""], ". . . 11 0,1"),
+    ("two blocks, the sides of each from 1 on", &["AA--", "BB--", "--BB", "--AA"], "1111 AABB BBAA 1212 0,0,2,2"),
+    ("two blocks, by turns", &["--B", "BB-", "--A", "AB-"], "111 BBB ABA 1122 0,1,0,1"),
+    ("a chain", &["AB--", "-AB-", "--AB"], "1111 ABAB -AB- 121 0,0,0"),
+    ("a chain that the last fragment joins", &["A---", "---A", "-B--", "AABB"], "1111 AB-A AABB 1112 0,0,0,0"),
+];
+
+#[test]
+fn error_free_tables() {
+    let mut trials = Trials::default();
+    for (name, fragments, fields) in ERROR_FREE {
+        let given = Fixture::of(fragments);
+        trials.run_each(name, &given, &Each::of_error_free(&given, fields));
+    }
+}
+
+/// A table that is not: the lines of S, F and C, and the fragments of C's table.
+struct Errors {
+    name: &'static str,
+    fragments: &'static [&'static str],
+    s: &'static str,
+    f: &'static str,
+    c: &'static str,
+    corrected: &'static [&'static str],
+}
+
+const ERRORS: [Errors; 14] = [
+    Errors {
+        name: "paper: printed",
+        fragments: &["AA-", "BAA", "-BB"],
+        s: "1 101 A#B B#A 121 0,0,0",
+        f: "1 111 AA- BAA 120 0,0,-",
+        c: "1 111 AAA -BB 112 0,0,0",
+        corrected: &["AA-", "AAA", "-BB"],
+    },
+    Errors {
+        name: "paper: AA, AB, BA",
+        fragments: &["AA", "AB", "BA"],
+        s: "1 10 A# B# 112 0,0,0",
+        f: "1 11 AA AB 120 0,0,-",
+        c: "1 11 AA BA 112 0,0,0",
+        corrected: &["AA", "AA", "BA"],
+    },
+    Errors {
+        name: "paper: AA, AB, BA, BB",
+        fragments: &["AA", "AB", "BA", "BB"],
+        s: "1 10 A# B# 1122 0,0,0,0",
+        f: "2 11 AA AB 1200 0,0,-,-",
+        c: "2 11 AA BB 1112 0,0,0,0",
+        corrected: &["AA", "AA", "AA", "BB"],
+    },
+    // The rarer letter is A here, and there is no tie.
+    Errors {
+        name: "BB, BA, AB, AA",
+        fragments: &["BB", "BA", "AB", "AA"],
+        s: "1 10 B# A# 1122 0,0,0,0",
+        f: "2 11 BB BA 1200 0,0,-,-",
+        c: "2 11 BB AA 1112 0,0,0,0",
+        corrected: &["BB", "BB", "BB", "AA"],
+    },
+    Errors {
+        name: "printed, -BB first",
+        fragments: &["-BB", "AA-", "BAA"],
+        s: "1 101 A#B B#A 112 0,0,0",
+        f: "1 111 -BB AA- 120 0,0,-",
+        c: "1 111 AAB BAA 112 0,0,0",
+        corrected: &["-AB", "AA-", "BAA"],
+    },
+    Errors {
+        name: "printed, BAA first",
+        fragments: &["BAA", "-BB", "AA-"],
+        s: "1 101 B#A A#B 122 0,0,0",
+        f: "1 111 BAA -BB 120 0,0,-",
+        c: "1 111 AAA -BB 121 0,0,0",
+        corrected: &["AAA", "-BB", "AA-"],
+    },
+    Errors {
+        name: "AA, BA, AB: one B among As in column 1",
+        fragments: &["AA", "BA", "AB"],
+        s: "1 10 A# B# 121 0,0,0",
+        f: "1 11 AA BA 120 0,0,-",
+        c: "1 11 AA AB 112 0,0,0",
+        corrected: &["AA", "AA", "AB"],
+    },
+    // Column 1 is not mixed: to remove it would not help.
+    Errors {
+        name: "an unmixed column between",
+        fragments: &["AAA", "AAB", "BAA"],
+        s: "1 110 AA# BA# 112 0,0,0",
+        f: "1 111 AAA AAB 120 0,0,-",
+        c: "1 111 AAA BAA 112 0,0,0",
+        corrected: &["AAA", "AAA", "BAA"],
+    },
+    Errors {
+        name: "a column no one calls",
+        fragments: &["AA-", "AB-", "BA-"],
+        s: "1 101 A#- B#- 112 0,0,0",
+        f: "1 111 AA- AB- 120 0,0,-",
+        c: "1 111 AA- BA- 112 0,0,0",
+        corrected: &["AA-", "AA-", "BA-"],
+    },
+    Errors {
+        name: "a fragment without calls",
+        fragments: &["AA", "AB", "BA", "--"],
+        s: "1 10 A# B# 1121 0,0,0,3",
+        f: "1 11 AA AB 1201 0,0,-,3",
+        c: "1 11 AA BA 1121 0,0,0,3",
+        corrected: &["AA", "AA", "BA", "--"],
+    },
+    // The conflicts are 0-1 and 1-3 on column 1, 0-2 and 0-3 on column 2. Without column 2, fragment 2 has no call.
+    // C's earlier side lists, 1111, 1112 and 1121, cost 2.
+    Errors {
+        name: "short fragments inside a long one",
+        fragments: &["AAAA", "-B--", "--B-", "-AB-"],
+        s: "1 1101 AA#A -B#- 1211 0,0,2,0",
+        f: "1 1111 AAAA -BB- 1220 0,0,0,-",
+        c: "1 1111 AAAA -AB- 1122 0,0,0,0",
+        corrected: &["AAAA", "-A--", "--B-", "-AB-"],
+    },
+    // All A on both sides costs 1 in column 1; opposite letters would cost 2 or 3.
+    Errors {
+        name: "a column that costs less as all A",
+        fragments: &["AA", "AA", "AB", "BA", "BA"],
+        s: "1 10 A# B# 11122 0,0,0,0,0",
+        f: "1 11 AA BA 11022 0,0,-,0,0",
+        c: "1 11 AA BA 11122 0,0,0,0,0",
+        corrected: &["AA", "AA", "AA", "BA", "BA"],
+    },
+    // Three in conflict on columns 0 and 1, and three on columns 2 and 3, with the long fragment among both. F removes
+    // it, and with it what joins the blocks. C's earlier side lists cost 3 or more: those with 11 at the start, and
+    // 12111.
+    Errors {
+        name: "two blocks that one fragment joins",
+        fragments: &["AB--", "BA--", "AAAA", "--AB", "--BA"],
+        s: "2 1010 A#A# B#B# 12112 0,0,0,0,0",
+        f: "1 1111 ABAB BABA 12012 0,0,-,3,3",
+        c: "2 1111 AAAA BABA 12112 0,0,0,0,0",
+        corrected: &["AA--", "BA--", "AAAA", "--AA", "--BA"],
+    },
+    // The same three twice, apart: the sides, the ties and the numbers of the second block are those of the first.
+    Errors {
+        name: "two blocks with an error each",
+        fragments: &["AA--", "AB--", "BA--", "--AA", "--AB", "--BA"],
+        s: "2 1010 A#A# B#B# 112112 0,0,0,3,3,3",
+        f: "2 1111 AAAA ABAB 120120 0,0,-,3,3,-",
+        c: "2 1111 AAAA BABA 112112 0,0,0,3,3,3",
+        corrected: &["AA--", "AA--", "BA--", "--AA", "--AA", "--BA"],
+    },
+];
+
+#[test]
+fn tables_with_errors() {
+    let mut trials = Trials::default();
+    for row in ERRORS {
+        let given = Fixture::of(row.fragments);
+        let (s, f) = (Expected::listed(row.s), Expected::listed(row.f));
+        let c = Expected::corrected(row.c, row.corrected);
+        trials.run_each(row.name, &given, &Each::of_errors(&given, s, f, c));
+    }
+}

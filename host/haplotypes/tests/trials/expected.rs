@@ -1,0 +1,89 @@
+//! What calls are expected to return, and to leave in the buffers.
+
+use haplotypes::Outcome::{self, Accepted, Refused};
+
+use crate::calls::Service;
+use crate::fixtures::{answer, Fixture};
+
+/// Of one call. A buffer without numbers here is left as it was. The work is not here: an answer leaves it all zero.
+#[derive(Clone)]
+pub struct Expected {
+    pub outcome: Outcome,
+    pub cells: Option<Vec<u8>>,
+    pub tags: Option<Vec<u32>>,
+    pub answer: Option<Vec<u8>>,
+    pub table: Option<Vec<u8>>,
+}
+
+impl Expected {
+    pub fn untouched(outcome: Outcome) -> Expected {
+        Expected { outcome, cells: None, tags: None, answer: None, table: None }
+    }
+
+    pub fn refused(number: u8, place: usize) -> Expected {
+        Expected::untouched(Refused(number, place))
+    }
+
+    pub fn unpacked(given: &Fixture) -> Expected {
+        let (cells, tags) = (Some(given.cells.clone()), Some(given.tags.clone()));
+        Expected { cells, tags, ..Expected::untouched(Accepted(given.m())) }
+    }
+
+    pub fn packed(given: &Fixture) -> Expected {
+        Expected { table: Some(given.table.clone()), ..Expected::untouched(Accepted(given.m())) }
+    }
+
+    /// A line as the listing has it: the count, and the fields of the answer.
+    pub fn listed(line: &str) -> Expected {
+        let (count, fields) = line.split_once(' ').unwrap_or_else(|| panic!("no count: {line}"));
+        let count = count.parse().unwrap_or_else(|_| panic!("no count: {line}"));
+        Expected { answer: Some(answer(fields)), ..Expected::untouched(Accepted(count)) }
+    }
+
+    /// The same of C, whose table has these fragments.
+    pub fn corrected(line: &str, fragments: &[impl AsRef<str>]) -> Expected {
+        Expected { table: Some(Fixture::of(fragments).table), ..Expected::listed(line) }
+    }
+}
+
+/// Of every service that can refuse, given one table.
+pub struct Each {
+    unpack: Expected,
+    pack: Expected,
+    check: Expected,
+    s: Expected,
+    f: Expected,
+    c: Expected,
+}
+
+impl Each {
+    /// There is nothing to change in an error-free table, so the answers of check, S, F and C are one.
+    pub fn of_error_free(given: &Fixture, fields: &str) -> Each {
+        let listed = Expected::listed(&format!("0 {fields}"));
+        let c = Expected { table: Some(given.table.clone()), ..listed.clone() };
+        Each { check: listed.clone(), ..Each::of_errors(given, listed.clone(), listed, c) }
+    }
+
+    /// Check's no leaves the answer; unpack and pack do not look for errors.
+    pub fn of_errors(given: &Fixture, s: Expected, f: Expected, c: Expected) -> Each {
+        let (unpack, pack) = (Expected::unpacked(given), Expected::packed(given));
+        Each { unpack, pack, check: Expected::untouched(Accepted(1)), s, f, c }
+    }
+
+    /// C refuses the column, and no other service does.
+    pub fn too_deep(mut self, column: usize) -> Each {
+        self.c = Expected::refused(12, column);
+        self
+    }
+
+    pub fn of(&self, service: Service) -> &Expected {
+        match service {
+            Service::Unpack => &self.unpack,
+            Service::Pack => &self.pack,
+            Service::Check => &self.check,
+            Service::S => &self.s,
+            Service::F => &self.f,
+            Service::C => &self.c,
+        }
+    }
+}

@@ -1,0 +1,123 @@
+//! Full tables, whose answers follow from how they are made.
+
+use crate::calls::{Service, Trials};
+use crate::expected::{Each, Expected};
+use crate::fixtures::Fixture;
+
+/// The numbers of blocks, or `-`, as a field.
+fn joined(m: usize, block: impl Fn(usize) -> Option<usize>) -> String {
+    let blocks: Vec<String> = (0..m).map(|i| block(i).map_or("-".to_owned(), |number| number.to_string())).collect();
+    blocks.join(",")
+}
+
+/// 16 steps of 8 columns, each called by 8 fragments: four of As, the second of which may be another, and four of Bs.
+fn steps(second: &str) -> Vec<String> {
+    let step = ["AAAAAAAA", second, "AAAAAAAA", "AAAAAAAA", "BBBBBBBB", "BBBBBBBB", "BBBBBBBB", "BBBBBBBB"];
+    (0..128).map(|i| "-".repeat(i / 8 * 8) + step[i % 8] + &"-".repeat(120 - i / 8 * 8)).collect()
+}
+
+/// In each step fragments 0, 1 and 4 conflict with each other, so each step needs a change. S: without another column
+/// than the third they still do. F: any fragment but 1 has an equal one, which would still do. C: a side with some of
+/// the first four and some of the last costs 7 or more, 1 on each column but the third; apart, they cost 1, on the
+/// third.
+#[test]
+fn steps_of_depth_8() {
+    let mut trials = Trials::default();
+    let given = Fixture::of(&steps("AABAAAAA"));
+    let (kept, sides) = ("1".repeat(128), "11112222".repeat(16));
+    let (a, b) = ("A".repeat(128), "B".repeat(128));
+    let blocks = joined(128, |i| Some(i / 8 * 8));
+    let s =
+        format!("16 {} {} {} {sides} {blocks}", "11011111".repeat(16), "AA#AAAAA".repeat(16), "BB#BBBBB".repeat(16));
+    let left = joined(128, |i| (i % 8 != 1).then_some(i / 8 * 8));
+    let f = format!("16 {kept} {a} {b} {} {left}", "10112222".repeat(16));
+    let c = format!("16 {kept} {a} {b} {sides} {blocks}");
+    let c = Expected::corrected(&c, &steps("AAAAAAAA"));
+    let expected = Each::of_errors(&given, Expected::listed(&s), Expected::listed(&f), c);
+    trials.run_each("16 steps with an error each", &given, &expected);
+    let right = Fixture::of(&steps("AAAAAAAA"));
+    let fields = format!("{kept} {a} {b} {sides} {blocks}");
+    trials.run_each("16 steps without errors", &right, &Each::of_error_free(&right, &fields));
+}
+
+/// Fragment i spells the bits of i, B for 1, lowest first: every two fragments conflict, so F keeps the first two.
+/// On every two columns there are AA, AB, BA and BB, so S keeps the first column.
+#[test]
+fn every_word_of_7_letters() {
+    let mut trials = Trials::default();
+    let word = |i: usize| (0..7).map(|c| if i >> c & 1 == 1 { 'B' } else { 'A' }).collect::<String>();
+    let words: Vec<String> = (0..128).map(word).collect();
+    let given = Fixture::of(&words);
+    let s = format!("6 1000000 A###### B###### {} {}", "12".repeat(64), joined(128, |_| Some(0)));
+    let left = joined(128, |i| (i < 2).then_some(0));
+    let f = format!("126 1111111 AAAAAAA BAAAAAA 12{} {left}", "0".repeat(126));
+    let c = Expected::refused(12, 0);
+    trials.run_each("128 words", &given, &Each::of_errors(&given, Expected::listed(&s), Expected::listed(&f), c));
+}
+
+/// A pattern of 8 rows: B throughout in row 0, and in row b > 0 where bit b - 1 of the column is 1.
+fn pattern(row: usize, column: usize) -> char {
+    if row == 0 || column >> (row - 1) & 1 == 1 {
+        'B'
+    } else {
+        'A'
+    }
+}
+
+/// The pattern over columns 0 to 95, and again over columns 32 to 127. Where all 8 rows call two mixed columns, both
+/// can stay only if they part the rows alike; row 0 is B in both, so they would be equal, and no two are. So one mixed
+/// column of 0 to 95 can stay, and one of 32 to 126: at most two, the first of which are 0 and 96. Column 127 is all B.
+#[test]
+fn snps_of_which_125_must_go() {
+    let mut trials = Trials::default();
+    let fragment = |i: usize| {
+        let called = i / 8 * 32..i / 8 * 32 + 96;
+        (0..128).map(|c| if called.contains(&c) { pattern(i % 8, c) } else { '-' }).collect::<String>()
+    };
+    let fragments: Vec<String> = (0..16).map(fragment).collect();
+    let (first, rest) = ("0".repeat(95), "0".repeat(30));
+    let (removed, removed_rest) = ("#".repeat(95), "#".repeat(30));
+    // Column 0 is B in row 0 alone; column 96, which is 32 + 64, in rows 0, 6 and 7.
+    let sides = format!("1{}1{}11", "2".repeat(7), "2".repeat(5));
+    let s = format!(
+        "125 1{first}1{rest}1 B{removed}B{removed_rest}B A{removed}A{removed_rest}B {sides} {}",
+        joined(16, |i| Some(i / 8 * 8))
+    );
+    trials.run("127 mixed columns", Service::S, &Fixture::of(&fragments), &Expected::listed(&s));
+}
+
+/// 128 fragments of 96 columns, from 0 or 32 on, all A and all B by turns; but fragment 5, of Bs, has an A on column
+/// 60, which every fragment calls. So it conflicts with the Bs on column 60 and with the As elsewhere, and these with
+/// each other: one column will do only if it is 60, and one fragment only if it is 5.
+#[test]
+fn long_fragments_with_one_error() {
+    let mut trials = Trials::default();
+    let fragment = |i: usize| {
+        let start = i / 2 % 2 * 32;
+        let letter = |c| if i % 2 == 1 && (i, c) != (5, 60) { 'B' } else { 'A' };
+        (0..128).map(|c| if (start..start + 96).contains(&c) { letter(c) } else { '-' }).collect::<String>()
+    };
+    let fragments: Vec<String> = (0..128).map(fragment).collect();
+    let given = Fixture::of(&fragments);
+    let without_60 = |letter: &str, gap: &str| letter.repeat(60) + gap + &letter.repeat(67);
+    let (kept, a, b) = (without_60("1", "0"), without_60("A", "#"), without_60("B", "#"));
+    let s = format!("1 {kept} {a} {b} {} {}", "12".repeat(64), joined(128, |_| Some(0)));
+    let sides = format!("121210{}", "12".repeat(61));
+    let left = joined(128, |i| (i != 5).then_some(0));
+    let f = format!("1 {} {} {} {sides} {left}", "1".repeat(128), "A".repeat(128), "B".repeat(128));
+    let c = Expected::refused(12, 0);
+    trials.run_each("one error", &given, &Each::of_errors(&given, Expected::listed(&s), Expected::listed(&f), c));
+}
+
+#[test]
+fn equal_long_fragments() {
+    let mut trials = Trials::default();
+    for letter in ["A", "B"] {
+        let letters = letter.repeat(96);
+        let given = Fixture::of(&vec![letters.clone(); 128]);
+        let blocks = joined(128, |_| Some(0));
+        let fields = format!("{} {letters} {} {} {blocks}", "1".repeat(96), "-".repeat(96), "1".repeat(128));
+        let name = format!("128 fragments of 96 {letter}s");
+        trials.run_each(&name, &given, &Each::of_error_free(&given, &fields).too_deep(0));
+    }
+}

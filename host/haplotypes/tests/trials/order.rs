@@ -1,0 +1,169 @@
+//! Of several faults, the one that is refused: 3, 1, 2, 10, 11; then records from 0, each by 4 to 9; then 12, which
+//! `depths` tries. Pack: 3, 1, 2, 11; then fragments from 0, each by 6, 4, 8, 9.
+
+use crate::calls::{Service, Sizes, Trials, OF_TABLES, SERVICES, WITH_WORK};
+use crate::expected::{Each, Expected};
+use crate::faults::{run_faults, Fault};
+use crate::fixtures::{padded, Fixture};
+
+/// Name, columns, fragments, whether the bytes (for pack, the cells) are one too many, the length of the work, what
+/// every output has too much, and the number: of a service that borrows work, and of one that does not.
+type Faults = (&'static str, usize, usize, bool, usize, usize, u8, u8);
+
+/// Each row has the faults of the next one too. The fragments are gapped, and too many for C in column 0.
+const SIZES: [Faults; 6] = [
+    ("129 columns", 129, 129, true, 32_767, 1, 3, 3),
+    ("ragged", 3, 129, true, 32_767, 1, 1, 1),
+    ("129 fragments", 3, 129, false, 32_767, 1, 2, 2),
+    ("short work", 3, 9, false, 32_767, 1, 10, 11),
+    ("wrong outputs", 3, 9, false, 32_768, 1, 11, 11),
+    ("gapped records", 3, 9, false, 32_768, 0, 8, 8),
+];
+
+#[test]
+fn sizes_come_before_records() {
+    let mut trials = Trials::default();
+    for (name, n, m, ragged, work, more, number, number_without_work) in SIZES {
+        let mut given = Fixture::of(&vec![padded("A-A", n); m]);
+        given.table.extend(ragged.then_some(0));
+        given.cells.extend(ragged.then_some(0));
+        let exact = Sizes::of(&given);
+        let (cells, tags) = (exact.cells + more, exact.tags + more);
+        let sizes = Sizes { cells, tags, work, answer: exact.answer + more, table: exact.table + more };
+        for service in SERVICES {
+            let number = if WITH_WORK.contains(&service) { number } else { number_without_work };
+            trials.run_sized(name, service, &given, sizes, &Expected::refused(number, 0));
+        }
+    }
+}
+
+/// The same by pairs, with lengths 0 in the place of one too many.
+#[test]
+fn sizes_by_pairs() {
+    let mut trials = Trials::default();
+    let empty = Sizes { cells: 0, tags: 0, work: 0, answer: 0, table: 0 };
+    let given = Fixture::of(&["AA-", "BAA", "-BB"]);
+    let mut ragged = given.clone().in_columns(129);
+    ragged.table.truncate(31);
+    ragged.cells.truncate(8);
+    for service in SERVICES {
+        let number = if WITH_WORK.contains(&service) { 10 } else { 11 };
+        trials.run_sized("all lengths 0", service, &given, empty, &Expected::refused(number, 0));
+        let wide = given.clone().in_columns(129);
+        trials.run_sized("129 columns, all lengths 0", service, &wide, empty, &Expected::refused(3, 0));
+        trials.run_sized("129 columns and ragged", service, &ragged, empty, &Expected::refused(3, 0));
+        let all = ragged.clone().in_columns(usize::MAX);
+        trials.run_sized("columns without end and ragged", service, &all, empty, &Expected::refused(3, 0));
+    }
+}
+
+/// A refused record, and an output that is wrong.
+#[test]
+fn outputs_come_before_records() {
+    let mut trials = Trials::default();
+    let given = Fixture::of(&["AA-", "BAA", "-BB"]).in_columns(2);
+    let exact = Sizes::of(&given);
+    for service in OF_TABLES {
+        trials.run("record 1 out of frame", service, &given, &Expected::refused(4, 1));
+        let sizes = Sizes { cells: 0, answer: exact.answer - 1, ..exact };
+        trials.run_sized("and a wrong output", service, &given, sizes, &Expected::refused(11, 0));
+    }
+    let sizes = Sizes { table: 95, ..exact };
+    trials.run_sized("and a wrong table", Service::C, &given, sizes, &Expected::refused(11, 0));
+    let sizes = Sizes { tags: 2, ..exact };
+    trials.run_sized("and wrong tags", Service::Unpack, &given, sizes, &Expected::refused(11, 0));
+}
+
+/// Each row has the faults of the next one too. Byte 8 has four of the five cells, and byte 9 the last.
+const OF_A_RECORD: [Fault; 5] = [
+    ("4 to 8", 5, "AAAAA", &[(4, 1), (7, 1), (8, 0b01_00_01_00), (9, 0b11)], 4),
+    ("5 to 8", 5, "AAAAA", &[(7, 1), (8, 0b01_00_01_00), (9, 0b11)], 5),
+    ("6 to 8", 5, "AAAAA", &[(8, 0b01_00_01_00), (9, 0b11)], 6),
+    ("7 and 8", 5, "AAAAA", &[(8, 0b01_00_01_00)], 7),
+    ("8", 5, "AAAAA", &[(8, 0b01_00_01_01)], 8),
+];
+
+#[test]
+fn rules_of_a_record() {
+    run_faults(&OF_A_RECORD);
+    run_faults(&[
+        ("4 by a start without calls, and 5", 3, "---", &[(4, 1), (8, 1)], 4),
+        ("5 by a cell after the span, and 6", 3, "?", &[(8, 0b01_11)], 5),
+        ("5 by a cell after the span, and 7", 3, "AA", &[(8, 0b01_00_01)], 5),
+        ("6 first and 7 last", 3, "AA", &[(8, 0b00_11)], 6),
+        ("7 first and 6 last", 3, "AA", &[(8, 0b11_00)], 6),
+        ("6 after a gap", 3, "A-?", &[], 6),
+    ]);
+}
+
+/// The same with the tag of an earlier record.
+#[test]
+fn rules_of_a_record_with_a_tag_twice() {
+    let mut trials = Trials::default();
+    let twice = Fixture::tagged(&["A----", "AAAAA", "A----"], &[10, 10, 12]);
+    for service in OF_TABLES {
+        for (name, _, _, edits, number) in OF_A_RECORD {
+            let given = twice.clone().edited(1, edits);
+            trials.run(&format!("{name} and 9"), service, &given, &Expected::refused(number, 1));
+        }
+        trials.run("9", service, &twice, &Expected::refused(9, 1));
+    }
+    let given = Fixture::tagged(&["A----", "AAAAA", "A----"], &[10, 11, 12]);
+    trials.run_each("none", &given, &Each::of_error_free(&given, "11111 AAAAA ----- 111 0,0,0"));
+}
+
+/// Calls at both ends of 128 columns reach over more than 96, and are gapped. As a record they are out of frame,
+/// whatever the codes.
+#[test]
+fn rules_of_packs_fragments() {
+    let mut trials = Trials::default();
+    let rows = [
+        ("6, 4, 8 and 9", format!("?{}A", "-".repeat(126)), [10, 10], 6, 4),
+        ("4, 8 and 9", format!("A{}B", "-".repeat(126)), [10, 10], 4, 4),
+        ("8 and 9", padded("A-B", 128), [10, 10], 8, 8),
+        ("9", padded("AAB", 128), [10, 10], 9, 9),
+        ("4 and 8", format!("A{}B", "-".repeat(126)), [10, 11], 4, 4),
+    ];
+    for (name, letters, tags, of_pack, of_tables) in rows {
+        let given = Fixture::tagged(&[&padded("A", 128), &letters], &tags);
+        trials.run(name, Service::Pack, &given, &Expected::refused(of_pack, 1));
+        for service in OF_TABLES {
+            trials.run(name, service, &given, &Expected::refused(of_tables, 1));
+        }
+    }
+}
+
+/// A later rule of a lower record comes before an earlier rule of a higher one.
+#[test]
+fn records_from_0() {
+    let mut trials = Trials::default();
+    let gapped = Fixture::of(&["A-A", "AAA", "AAA"]).edited(1, &[(7, 1)]).edited(2, &[(4, 1)]);
+    let open = Fixture::of(&["AAA", "AAA", "AAA"]).edited(1, &[(8, 0b00_01_01)]).edited(2, &[(7, 1)]);
+    let twice = Fixture::tagged(&["AAA", "AAA", "AAA"], &[10, 10, 12]).edited(2, &[(4, 1)]);
+    let rows =
+        [("8 at 0, 5 at 1, 4 at 2", gapped, 8, 0), ("7 at 1, 5 at 2", open, 7, 1), ("9 at 1, 4 at 2", twice, 9, 1)];
+    for (name, given, number, place) in &rows {
+        for service in OF_TABLES {
+            trials.run(name, service, given, &Expected::refused(*number, *place));
+        }
+    }
+}
+
+/// The same in letters, for pack too.
+#[test]
+fn fragments_from_0() {
+    let mut trials = Trials::default();
+    let rows = [
+        ("8 at 0, 6 at 1", ["A-A", "?AA", "AAA"], [10, 11, 12], 8, 0),
+        ("8 at 1, 6 at 2", ["AAA", "A-B", "A?A"], [10, 11, 12], 8, 1),
+        ("9 at 1, 6 at 2", ["AAA", "AAA", "A?A"], [10, 10, 12], 9, 1),
+        ("9 at 1, 8 at 2", ["AAA", "AAA", "A-A"], [10, 10, 12], 9, 1),
+        ("6 at 0, 9 at 1", ["??A", "AAA", "AAA"], [10, 10, 12], 6, 0),
+        ("8 at 0, 9 at 2", ["A-A", "AAA", "AAA"], [10, 11, 11], 8, 0),
+    ];
+    for (name, fragments, tags, number, place) in rows {
+        for service in SERVICES {
+            trials.run(name, service, &Fixture::tagged(&fragments, &tags), &Expected::refused(number, place));
+        }
+    }
+}
