@@ -1,4 +1,4 @@
-// The 32-byte record: its fields and cells, and the rules 1 to 9 of a table.
+// The 32-byte record: its fields and cells, the rules 1 to 9 of a table, unpack and find.
 #ifndef RECORDS_H
 #define RECORDS_H
 #include <stdbool.h>
@@ -26,6 +26,19 @@ static inline size_t start_of(const uint8_t *record) { return record[4] | (size_
 static inline size_t span_of(const uint8_t *record) { return record[6]; }
 static inline uint8_t cell_of(const uint8_t *record, size_t i) { return record[8 + i / 4] >> 2 * (i % 4) & 3; }
 static inline bool is_call(uint8_t code) { return code == A || code == B; }
+
+// The first called column of a row, and one past the last; 0 without calls.
+static size_t first_call(size_t n, const uint8_t *row) {
+    for (size_t c = 0; c < n; c++)
+        if (is_call(row[c])) return c;
+    return 0;
+}
+
+static size_t past_calls(size_t n, const uint8_t *row) {
+    for (size_t c = n; c > 0; c--)
+        if (is_call(row[c - 1])) return c;
+    return 0;
+}
 
 static bool out_of_frame(size_t n, const uint8_t *record) {
     size_t start = start_of(record), span = span_of(record);
@@ -108,5 +121,12 @@ static outcome unpack(size_t n, const uint8_t *table, size_t length, uint8_t *ce
     fill_cells(table, m, n, cells);
     for (size_t i = 0; i < m; i++) tags[i] = tag_of(table + RECORD * i);
     return accepted(m);
+}
+
+// Where the first whole record with the tag begins; the table's length where none has it.
+static size_t find(uint32_t tag, const uint8_t *table, size_t length) {
+    for (size_t at = 0; length - at >= RECORD; at += RECORD)
+        if (tag_of(table + at) == tag) return at;
+    return length;
 }
 #endif
