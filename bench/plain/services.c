@@ -1,0 +1,19 @@
+// The plain services as one table of functions, the only name that is visible outside: BUILD, which the compiler's command line gives,
+// so that two builds link into one program and no call is inlined into the loop that times it.
+#include "corrections.h"
+#include "fragments.h"
+#include "packing.h"
+#include "snps.h"
+
+typedef struct {
+    outcome (*unpack)(size_t n, const uint8_t *table, size_t length, uint8_t *cells, uint32_t *tags);
+    outcome (*pack)(size_t n, const uint8_t *cells, size_t cells_length, const uint32_t *tags, size_t m, uint8_t *table, size_t length);
+    size_t (*find)(uint32_t tag, const uint8_t *table, size_t length);
+    outcome (*check)(size_t n, const uint8_t *table, size_t length, uint8_t *answer);
+    outcome (*least_snp_removal)(size_t n, const uint8_t *table, size_t length, uint16_t *work, size_t work_length, uint8_t *answer);
+    outcome (*least_fragment_removal)(size_t n, const uint8_t *table, size_t length, uint16_t *work, size_t work_length, uint8_t *answer);
+    outcome (*least_corrections)(size_t n, const uint8_t *table, size_t length, uint16_t *work, size_t work_length, uint8_t *answer, uint8_t *corrected);
+} services;
+
+extern const services BUILD;
+const services BUILD = {unpack, pack, find, check, least_snp_removal, least_fragment_removal, least_corrections};

@@ -1,0 +1,159 @@
+//! Whether the library and both builds of the plain implementation leave the same outcome and the same bytes.
+
+use crate::buffers::Buffers;
+use crate::plain;
+use crate::request::{Form, Request};
+use crate::services::{self, Implementation, Service};
+use crate::tables::Kind;
+use haplotypes::Outcome;
+
+/// gcc, clang, library
+pub type All<'a> = [Implementation<'a>; 3];
+
+pub const ALL: All<'static> = [
+    Implementation { name: "gcc", call: &plain::gcc },
+    Implementation { name: "clang", call: &plain::clang },
+    Implementation { name: "library", call: &services::library },
+];
+
+const SEEDS: [u64; 3] = [1, 2, 3];
+
+/// What a call leaves.
+pub struct Left {
+    pub outcome: Outcome,
+    pub buffers: Buffers,
+}
+
+impl Left {
+    pub fn is_accepted(&self) -> bool {
+        matches!(self.outcome, Outcome::Accepted(_))
+    }
+
+    /// What differs from what another call left.
+    pub fn difference(&self, other: &Left) -> Option<String> {
+        if self.outcome != other.outcome {
+            return Some(format!("the outcome is {}, not {}", self.outcome, other.outcome));
+        }
+        self.buffers.difference(&other.buffers, &[])
+    }
+}
+
+/// What all leave of a request, or what is wrong with it.
+pub fn agree(request: Request, all: &All) -> Result<Left, String> {
+    let [gcc, clang, library] = all;
+    let first = left(request, gcc)?;
+    for other in [clang, library] {
+        if let Some(difference) = left(request, other)?.difference(&first) {
+            return Err(format!("{} and {} differ on {request}: {difference}", other.name, gcc.name));
+        }
+    }
+    if request.must_be_accepted() && !first.is_accepted() {
+        return Err(format!("{}: {request}", first.outcome));
+    }
+    Ok(first)
+}
+
+/// What one leaves. No byte is changed but those of the buffers that an accepted call writes.
+fn left(request: Request, implementation: &Implementation) -> Result<Left, String> {
+    let (call, before) = request.call();
+    let mut buffers = before.clone();
+    let outcome = (implementation.call)(&call, &mut buffers);
+    let left = Left { outcome, buffers };
+    let written = if left.is_accepted() { request.service.written() } else { &[] };
+    match left.buffers.difference(&before, written) {
+        None => Ok(left),
+        Some(change) => Err(format!("{} writes where it may not on {request}: {change}", implementation.name)),
+    }
+}
+
+pub fn requests() -> impl Iterator<Item = Request> {
+    Kind::ALL.into_iter().flat_map(|kind| {
+        Service::ALL.into_iter().flat_map(move |service| {
+            let forms = Form::of(service).iter();
+            forms.flat_map(move |&form| SEEDS.map(|seed| Request { service, kind, seed, form }))
+        })
+    })
+}
+
+/// All requests: how many, and how many of them were accepted.
+pub fn agree_on_all(all: &All) -> Result<String, String> {
+    let (mut calls, mut accepted) = (0, 0);
+    for request in requests() {
+        accepted += agree(request, all)?.is_accepted() as usize;
+        calls += 1;
+    }
+    let agreed = "bench: the library and the plain implementation agree on";
+    Ok(format!("{agreed} {calls} calls, {accepted} of them accepted, in every byte"))
+}
+
+#[cfg(test)]
+mod tests {
+    use super::*;
+    use std::collections::BTreeSet;
+
+    /// The numbers by which a service refuses what `--check` asks of it.
+    fn refusals(service: Service) -> Vec<u8> {
+        let lefts = requests().filter(|request| request.service == service).map(|request| agree(request, &ALL));
+        let outcomes = lefts.map(|left| left.unwrap_or_else(|message| panic!("{message}")).outcome);
+        let numbers: BTreeSet<u8> = outcomes.filter_map(number).collect();
+        numbers.into_iter().collect()
+    }
+
+    fn number(outcome: Outcome) -> Option<u8> {
+        match outcome {
+            Outcome::Accepted(_) => None,
+            Outcome::Refused(number, _) => Some(number),
+        }
+    }
+
+    #[test]
+    fn every_rule_of_a_record_refuses_some_request() {
+        assert_eq!(refusals(Service::Unpack), [4, 5, 6, 7, 8, 9]);
+        assert_eq!(refusals(Service::C), [4, 5, 6, 7, 8, 9, 12]);
+        assert_eq!(refusals(Service::Pack), [4, 6, 8, 9]);
+        assert_eq!(refusals(Service::Find), []);
+    }
+
+    /// The outcome of all for a request with other sizes.
+    fn resized(service: Service, resize: impl Fn(&mut usize, &mut Buffers)) -> Outcome {
+        let request = Request { service, kind: Kind::Shallow, seed: 1, form: Form::Sound };
+        let outcomes = ALL.map(|implementation| {
+            let (mut call, mut buffers) = request.call();
+            resize(&mut call.n, &mut buffers);
+            let before = buffers.clone();
+            let outcome = (implementation.call)(&call, &mut buffers);
+            assert_eq!(buffers.difference(&before, &[]), None);
+            outcome
+        });
+        assert_eq!(outcomes, [outcomes[0]; 3]);
+        outcomes[0]
+    }
+
+    #[test]
+    fn every_rule_of_the_sizes_refuses() {
+        for service in Service::ALL.into_iter().filter(|&service| service != Service::Find && service != Service::Pack)
+        {
+            assert_eq!(resized(service, |n, _| *n = 129), Outcome::Refused(3, 0));
+            assert_eq!(resized(service, |_, buffers| buffers.table.resize(4095)), Outcome::Refused(1, 0));
+            assert_eq!(resized(service, |_, buffers| buffers.table.resize(129 * 32)), Outcome::Refused(2, 0));
+        }
+    }
+
+    #[test]
+    fn every_rule_of_the_sizes_refuses_in_pack() {
+        let pack = |n, cells, tags, table| {
+            resized(Service::Pack, |columns, buffers| {
+                *columns = n;
+                buffers.cells.resize(cells);
+                buffers.tags.resize(tags);
+                buffers.table.resize(table);
+            })
+        };
+        assert_eq!(pack(129, 0, 129, 0), Outcome::Refused(3, 0));
+        assert_eq!(pack(128, 129 * 128 - 1, 129, 0), Outcome::Refused(1, 0));
+        assert_eq!(pack(0, 1, 0, 0), Outcome::Refused(1, 0));
+        assert_eq!(pack(128, 129 * 128, 129, 0), Outcome::Refused(2, 0));
+        assert_eq!(pack(128, 128 * 128, 128, 4095), Outcome::Refused(11, 0));
+        assert_eq!(pack(128, 128 * 128, 128, 4097), Outcome::Refused(11, 0));
+    }
+}

@@ -1,0 +1,82 @@
+//! The plain implementation, as gcc and as clang compile it: `bench/plain/services.c`.
+
+use crate::buffers::Buffers;
+use crate::services::{Call, Service};
+use haplotypes::Outcome;
+use std::ffi::c_uint;
+use std::sync::{Mutex, PoisonError};
+
+/// An acceptance has number 0 and a count, a refusal a number and a place.
+#[repr(C)]
+struct PlainOutcome {
+    number: c_uint,
+    value: usize,
+}
+
+type Unpack = unsafe extern "C" fn(usize, *const u8, usize, *mut u8, *mut u32) -> PlainOutcome;
+type Pack = unsafe extern "C" fn(usize, *const u8, usize, *const u32, usize, *mut u8, usize) -> PlainOutcome;
+type Find = unsafe extern "C" fn(u32, *const u8, usize) -> usize;
+type Check = unsafe extern "C" fn(usize, *const u8, usize, *mut u8) -> PlainOutcome;
+type Removal = unsafe extern "C" fn(usize, *const u8, usize, *mut u16, usize, *mut u8) -> PlainOutcome;
+type Corrections = unsafe extern "C" fn(usize, *const u8, usize, *mut u16, usize, *mut u8, *mut u8) -> PlainOutcome;
+
+#[repr(C)]
+struct Build {
+    unpack: Unpack,
+    pack: Pack,
+    find: Find,
+    check: Check,
+    least_snp_removal: Removal,
+    least_fragment_removal: Removal,
+    least_corrections: Corrections,
+}
+
+extern "C" {
+    static plain_gcc: Build;
+    static plain_clang: Build;
+}
+
+pub fn gcc(call: &Call, buffers: &mut Buffers) -> Outcome {
+    plain(unsafe { &plain_gcc }, call, buffers)
+}
+
+pub fn clang(call: &Call, buffers: &mut Buffers) -> Outcome {
+    plain(unsafe { &plain_clang }, call, buffers)
+}
+
+/// F keeps its weights in static arrays, so it serves one thread at a time.
+static WEIGHTS: Mutex<()> = Mutex::new(());
+
+fn plain(build: &Build, call: &Call, b: &mut Buffers) -> Outcome {
+    let n = call.n;
+    let (table, cells, tags) = (b.table.lent(), b.cells.lent(), b.tags.lent());
+    let (answer, corrected, work) = (b.answer.lent(), b.corrected.lent(), b.work.lent());
+    let (records, length) = (table.as_mut_ptr(), table.len());
+    let (numbers, room) = (work.as_mut_ptr(), work.len());
+    // Of every call: it writes no more than a table of 128 fragments and 128 columns asks for, and that much is lent.
+    let outcome = unsafe {
+        match call.service {
+            Service::Unpack => (build.unpack)(n, records, length, cells.as_mut_ptr(), tags.as_mut_ptr()),
+            Service::Pack => (build.pack)(n, cells.as_ptr(), cells.len(), tags.as_ptr(), tags.len(), records, length),
+            Service::Find => PlainOutcome { number: 0, value: (build.find)(call.tag, records, length) },
+            Service::Check => (build.check)(n, records, length, answer.as_mut_ptr()),
+            Service::S => (build.least_snp_removal)(n, records, length, numbers, room, answer.as_mut_ptr()),
+            Service::F => {
+                let _alone = WEIGHTS.lock().unwrap_or_else(PoisonError::into_inner);
+                (build.least_fragment_removal)(n, records, length, numbers, room, answer.as_mut_ptr())
+            }
+            Service::C => {
+                let (answer, corrected) = (answer.as_mut_ptr(), corrected.as_mut_ptr());
+                (build.least_corrections)(n, records, length, numbers, room, answer, corrected)
+            }
+        }
+    };
+    read(outcome)
+}
+
+fn read(outcome: PlainOutcome) -> Outcome {
+    match outcome {
+        PlainOutcome { number: 0, value } => Outcome::Accepted(value),
+        PlainOutcome { number, value } => Outcome::Refused(number as u8, value),
+    }
+}

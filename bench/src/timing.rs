@@ -1,0 +1,155 @@
+//! The time of a call through each implementation.
+
+use crate::agree::{agree, All, Left};
+use crate::buffers::Buffers;
+use crate::request::{Form, Request};
+use crate::services::{Call, Implementation, Service};
+use crate::tables::Kind;
+use std::ffi::c_long;
+use std::hint::black_box;
+
+extern "C" {
+    /// The processor time of this process in microseconds, or -1. Wall time would count what other programs take.
+    fn clock() -> c_long;
+}
+
+fn clocked() -> Result<i64, String> {
+    match unsafe { clock() } {
+        time if time >= 0 => Ok(time),
+        _ => Err("there is no processor time".to_string()),
+    }
+}
+
+/// How many runs, the least of which counts, and about how many microseconds one takes.
+#[derive(Clone, Copy)]
+pub struct Effort {
+    pub runs: i64,
+    pub length: i64,
+}
+
+/// Microseconds of one call by gcc, clang and the library.
+#[derive(Clone, Copy)]
+pub struct Times([f64; 3]);
+
+impl Times {
+    pub fn library(&self) -> f64 {
+        self.0[2]
+    }
+
+    /// The library's time to that of the faster build of the plain implementation.
+    fn ratio(&self) -> f64 {
+        self.0[2] / self.0[0].min(self.0[1])
+    }
+
+    /// gcc, clang, library and the ratio, with a word between them.
+    pub fn joined(&self, between: &str) -> String {
+        let mut words: Vec<String> = self.0.iter().map(|time| shown(*time)).collect();
+        words.push(format!("{:.2}", self.ratio()));
+        words.join(between)
+    }
+}
+
+fn shown(time: f64) -> String {
+    if time < 1.0 {
+        format!("{time:.3}")
+    } else {
+        format!("{time:.1}")
+    }
+}
+
+/// The least times of the runs, in which the implementations take turns.
+pub fn measure(request: Request, all: &All, effort: Effort) -> Result<Times, String> {
+    let expected = agree(request, all)?;
+    let (call, before) = request.call();
+    let left = Left { outcome: expected.outcome, buffers: before.clone() };
+    let mut trial = Trial { request, call, before, left, expected };
+    let times = trial.repetitions(&all[0], effort.length)?;
+    let mut least = [i64::MAX; 3];
+    for _ in 0..effort.runs {
+        for (least, implementation) in least.iter_mut().zip(all) {
+            *least = trial.run(implementation, times)?.min(*least);
+        }
+    }
+    if least.contains(&0) {
+        return Err(format!("no times of {request}"));
+    }
+    Ok(Times(least.map(|time| time as f64 / times as f64)))
+}
+
+/// A request that is timed, in the same buffers whoever serves it.
+struct Trial {
+    request: Request,
+    call: Call,
+    before: Buffers,
+    left: Left,
+    expected: Left,
+}
+
+impl Trial {
+    /// The microseconds of so many calls, which leave what is expected.
+    fn run(&mut self, implementation: &Implementation, times: i64) -> Result<i64, String> {
+        self.left.buffers.copy_from(&self.before);
+        let mut outcome = self.expected.outcome;
+        let begin = clocked()?;
+        for _ in 0..times {
+            let found = (implementation.call)(black_box(&self.call), black_box(&mut self.left.buffers));
+            if found != self.expected.outcome {
+                outcome = found;
+            }
+        }
+        let took = clocked()? - begin;
+        self.left.outcome = outcome;
+        match self.left.difference(&self.expected) {
+            None => Ok(took),
+            Some(what) => Err(format!("{} differs in repeated calls on {}: {what}", implementation.name, self.request)),
+        }
+    }
+
+    /// So many calls that they take about that long.
+    fn repetitions(&mut self, implementation: &Implementation, length: i64) -> Result<i64, String> {
+        let mut times = 1;
+        while times < 1 << 30 {
+            let took = self.run(implementation, times)?;
+            if 4 * took >= length {
+                return Ok((times * length / took).max(1));
+            }
+            times *= 2;
+        }
+        Err(format!("no times of {}", self.request))
+    }
+}
+
+/// What is timed for the table of `docs/PERFORMANCE.md`.
+const ROWS: [(Service, &[Kind]); 7] = {
+    use Kind::*;
+    [
+        (Service::Unpack, &[Typical, Full, Empty]),
+        (Service::Pack, &[Typical, Full, Empty]),
+        (Service::Find, &[Typical]),
+        (Service::Check, &[Typical, Random, Clean, Uniform, Empty, Single]),
+        (Service::S, &[Typical, Random, Clean, Full, Shallow]),
+        (Service::F, &[Typical, Random, Clean, Mixed, Uniform, Single]),
+        (Service::C, &[Shallow, Deep, Single]),
+    ]
+};
+
+/// The rows of the table, in order.
+pub fn rows() -> Vec<Request> {
+    let mut rows = Vec::new();
+    for (service, kinds) in ROWS {
+        let forms: &[Form] = if service == Service::Find { &[Form::Sound, Form::Absent] } else { &[Form::Sound] };
+        for &kind in kinds {
+            rows.extend(forms.iter().map(|&form| Request { service, kind, seed: 1, form }));
+        }
+    }
+    rows
+}
+
+/// A row's table, or for find the record that it looks for.
+pub fn row_name(row: &Request) -> String {
+    match (row.service, row.form) {
+        (Service::Find, Form::Sound) => "last".to_string(),
+        (Service::Find, _) => "absent".to_string(),
+        _ => row.kind.to_string(),
+    }
+}
