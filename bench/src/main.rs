@@ -8,6 +8,8 @@ mod request;
 mod services;
 mod tables;
 mod timing;
+#[cfg(test)]
+mod wrong;
 
 use request::{Form, Request};
 use services::Service;

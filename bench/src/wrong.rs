@@ -1,0 +1,189 @@
+//! Wrong implementations, which what `bench/run` runs must notice. Each prints a line then, for `bench/test` to count.
+
+use crate::agree::{agree, agree_on_all, requests, ALL};
+use crate::buffers::{Buffers, Guarded, GUARD};
+use crate::request::{Form, Request};
+use crate::services::{Call, Implementation, Service};
+use crate::tables::Kind;
+use crate::timing::{measure, Effort};
+use haplotypes::Outcome;
+use std::cell::Cell;
+use std::ops::BitXorAssign;
+
+fn request(service: Service, kind: Kind, form: Form) -> Request {
+    Request { service, kind, seed: 2, form }
+}
+
+/// Every service on a table that it accepts.
+fn accepted() -> [Request; 7] {
+    Service::ALL.map(|service| request(service, Kind::Shallow, Form::Sound))
+}
+
+/// Every service that refuses, on a table that it refuses.
+fn refused() -> impl Iterator<Item = Request> {
+    let services = Service::ALL.into_iter().filter(|&service| service != Service::Find);
+    services.map(|service| request(service, Kind::Shallow, Form::Repeated))
+}
+
+fn see(noticed: Result<(), String>, name: &str, request: Request) {
+    let message = noticed.err().unwrap_or_else(|| panic!("unnoticed: {name} on {request}"));
+    assert!(message.contains(name) && message.contains(&request.to_string()), "{message}");
+    println!("noticed: {message}");
+}
+
+/// Each implementation in turn is wrong by what `spoil` makes of the buffers before and after the call and the outcome.
+fn each_is_noticed(request: Request, spoil: impl Fn(&Buffers, &mut Buffers, Outcome) -> Outcome) {
+    for (wrong, sound) in ALL.into_iter().enumerate() {
+        let call = |call: &Call, buffers: &mut Buffers| {
+            let before = buffers.clone();
+            let outcome = (sound.call)(call, buffers);
+            spoil(&before, buffers, outcome)
+        };
+        let mut all = ALL;
+        all[wrong].call = &call;
+        see(agree(request, &all).map(|_| ()), sound.name, request);
+    }
+}
+
+fn flip<T: BitXorAssign + From<u8>>(buffer: &mut Guarded<T>, place: usize) {
+    let end = buffer.all.len() - GUARD;
+    let at = [GUARD, end - 1, GUARD - 1, end][place];
+    buffer.all[at] ^= T::from(1);
+}
+
+/// One bit in each buffer: of its first number, of its last, of the one before it and of the one after it.
+fn each_bit_is_noticed(request: Request) {
+    let flips: [fn(&mut Buffers, usize); 6] = [
+        |buffers, place| flip(&mut buffers.table, place),
+        |buffers, place| flip(&mut buffers.cells, place),
+        |buffers, place| flip(&mut buffers.tags, place),
+        |buffers, place| flip(&mut buffers.answer, place),
+        |buffers, place| flip(&mut buffers.corrected, place),
+        |buffers, place| flip(&mut buffers.work, place),
+    ];
+    for flip in flips {
+        for place in 0..4 {
+            each_is_noticed(request, |_, buffers, outcome| {
+                flip(buffers, place);
+                outcome
+            });
+        }
+    }
+}
+
+#[test]
+fn a_flipped_bit_of_an_acceptance() {
+    accepted().into_iter().for_each(each_bit_is_noticed);
+}
+
+#[test]
+fn a_flipped_bit_of_a_refusal() {
+    refused().for_each(each_bit_is_noticed);
+}
+
+#[test]
+fn a_wrong_count() {
+    for request in accepted() {
+        each_is_noticed(request, |_, _, outcome| match outcome {
+            Outcome::Accepted(count) => Outcome::Accepted(count + 1),
+            other => other,
+        });
+    }
+}
+
+#[test]
+fn a_wrong_number_and_a_wrong_place() {
+    for request in refused() {
+        for (more, further) in [(1, 0), (0, 1)] {
+            each_is_noticed(request, |_, _, outcome| match outcome {
+                Outcome::Refused(number, place) => Outcome::Refused(number + more, place + further),
+                other => other,
+            });
+        }
+    }
+}
+
+#[test]
+fn a_refusal_for_an_acceptance() {
+    for request in accepted() {
+        each_is_noticed(request, |before, buffers, _| {
+            buffers.copy_from(before);
+            Outcome::Refused(8, 0)
+        });
+    }
+}
+
+#[test]
+fn an_acceptance_for_a_refusal() {
+    refused().for_each(|request| each_is_noticed(request, |_, _, _| Outcome::Accepted(0)));
+}
+
+#[test]
+fn nothing_written() {
+    // on a table that is error-free, so that check writes too
+    let services = Service::ALL.into_iter().filter(|service| !service.written().is_empty());
+    for request in services.map(|service| request(service, Kind::Single, Form::Sound)) {
+        each_is_noticed(request, |before, buffers, outcome| {
+            buffers.copy_from(before);
+            outcome
+        });
+    }
+}
+
+#[test]
+fn work_left_dirty() {
+    for service in [Service::S, Service::F, Service::C] {
+        each_is_noticed(request(service, Kind::Shallow, Form::Sound), |before, buffers, outcome| {
+            buffers.work.clone_from(&before.work);
+            outcome
+        });
+    }
+}
+
+#[test]
+fn the_same_refusal_by_all() {
+    for request in accepted() {
+        let all = ALL.map(|sound| Implementation { name: sound.name, call: &|_, _| Outcome::Refused(4, 0) });
+        see(agree(request, &all).map(|_| ()), "refused 4 at 0", request);
+    }
+}
+
+/// The library, wrong from that call on: it counts one too many, or writes after the table.
+fn wrong_from(first: usize, calls: &Cell<usize>, count: bool, call: &Call, buffers: &mut Buffers) -> Outcome {
+    calls.set(calls.get() + 1);
+    let outcome = (ALL[2].call)(call, buffers);
+    match outcome {
+        _ if calls.get() < first => outcome,
+        Outcome::Accepted(number) if count => Outcome::Accepted(number + 1),
+        Outcome::Refused(number, place) if count => Outcome::Refused(number, place + 1),
+        _ => {
+            flip(&mut buffers.table, 3);
+            outcome
+        }
+    }
+}
+
+#[test]
+fn the_first_call_and_the_last() {
+    for first in [1, requests().count()] {
+        let calls = Cell::new(0);
+        let call = |call: &Call, buffers: &mut Buffers| wrong_from(first, &calls, true, call, buffers);
+        let mut all = ALL;
+        all[2].call = &call;
+        see(agree_on_all(&all).map(|_| ()), "library", requests().nth(first - 1).unwrap());
+    }
+}
+
+#[test]
+fn a_repeated_call() {
+    for count in [false, true] {
+        for request in accepted() {
+            let calls = Cell::new(0);
+            let call = |call: &Call, buffers: &mut Buffers| wrong_from(2, &calls, count, call, buffers);
+            let mut all = ALL;
+            all[2].call = &call;
+            let measured = measure(request, &all, Effort { runs: 1, length: 1 });
+            see(measured.map(|_| ()), "library differs in repeated calls", request);
+        }
+    }
+}
