@@ -148,6 +148,23 @@ fn the_same_refusal_by_all() {
     }
 }
 
+#[test]
+fn the_same_write_by_all() {
+    // around the answer where it may be written, and in it too where it may not
+    let around = accepted().map(|request| (request, 2..4));
+    for (request, places) in around.into_iter().chain(refused().map(|request| (request, 0..4))) {
+        for place in places {
+            let call = |call: &Call, buffers: &mut Buffers| {
+                let outcome = (ALL[2].call)(call, buffers);
+                flip(&mut buffers.answer, place);
+                outcome
+            };
+            let all = ALL.map(|sound| Implementation { name: sound.name, call: &call });
+            see(agree(request, &all).map(|_| ()), "answer", request);
+        }
+    }
+}
+
 /// The library, wrong from that call on: it counts one too many, or writes after the table.
 fn wrong_from(first: usize, calls: &Cell<usize>, count: bool, call: &Call, buffers: &mut Buffers) -> Outcome {
     calls.set(calls.get() + 1);
