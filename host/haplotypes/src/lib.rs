@@ -124,6 +124,19 @@ pub fn check(n: usize, table: &[u8], answer: &mut [u8]) -> Outcome {
 }
 
 /// S: the fewest columns to remove so that the rest is error-free. Accepted with their number, the answer, and the work all zero.
+///
+/// ```
+/// use haplotypes::{answer_length, least_snp_removal, pack, Outcome, WORK};
+///
+/// let mut table = [0; 96];
+/// pack(2, &[1, 1, 1, 2, 2, 1], &[10, 11, 12], &mut table); // AA, AB, BA
+/// let (mut work, mut answer) = (vec![7; WORK], [0; answer_length(2, 3)]);
+/// assert_eq!(least_snp_removal(2, &table, &mut work, &mut answer), Outcome::Accepted(1));
+/// assert_eq!(answer, [1, 0, 1, 3, 2, 3, 1, 1, 2, 0, 0, 0]); // keep marks; A#; B#; sides; blocks
+/// assert!(work.iter().all(|&number| number == 0));
+///
+/// assert_eq!(least_snp_removal(2, &table, &mut work[1..], &mut answer), Outcome::Refused(10, 0)); // work too short
+/// ```
 pub fn least_snp_removal(n: usize, table: &[u8], work: &mut [u16], answer: &mut [u8]) -> Outcome {
     read(COUNT, unsafe {
         ffi::haplotypes_least_snp_removal(
