@@ -26,6 +26,15 @@ pub struct Answers {
 }
 
 impl Answer {
+    /// The answer where the table comes with more columns: they have no calls, so that each is kept, and a hole in both
+    /// haplotypes.
+    pub fn widened(&self, n: usize) -> Answer {
+        let mut wide = self.clone();
+        wide.keep.resize(n, true);
+        wide.haplotypes.iter_mut().for_each(|haplotype| haplotype.resize(n, HOLE));
+        wide
+    }
+
     pub fn bytes(&self) -> Vec<u8> {
         let mut bytes: Vec<u8> = self.keep.iter().map(|&kept| kept as u8).collect();
         bytes.extend(&self.haplotypes[0]);

@@ -112,7 +112,7 @@ fn count(matrix: &Matrix, sides: &[u8], side: u8, c: usize, letter: u8) -> usize
 }
 
 /// The matrix with the rarer letter of each column and side changed; on equal counts the Bs become A.
-fn corrected(matrix: &Matrix, sides: &[u8]) -> Matrix {
+pub fn corrected(matrix: &Matrix, sides: &[u8]) -> Matrix {
     let mut corrected = matrix.clone();
     for (f, row) in corrected.rows.iter_mut().enumerate() {
         for (c, cell) in row.iter_mut().enumerate().filter(|(_, cell)| **cell != HOLE) {

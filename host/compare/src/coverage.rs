@@ -2,12 +2,14 @@
 //! longer settles anything, fails it. The generator says how many tables a kind has. The rest depends on the seed: at least
 //! half of what is usual is asked for, a quarter of what is below 40, and nothing below 12.
 //!
-//! The listing meets the refusals 1 to 9, and C's 12. It never meets 10 and 11, as it lends itself enough work and buffers
-//! of the right length. Check meets 1 to 9 and 11. It borrows no work, so never 10, and 12 is C's alone.
+//! The listing meets the refusals 1 to 9, and C's 12. It never meets 10 and 11, as it lends itself enough work and
+//! buffers of the right length. Every service meets the refusals that it has: 10 is of those that borrow work, 12 is C's alone,
+//! pack has neither 5 nor 7, as cells have no stray bits and no ends, and find refuses nothing.
 
 use crate::runner::{sum, Tally};
 use crate::seen::{Seen, Verdict};
-use Verdict::{No, Refused, Yes};
+use crate::service::Service::{self, Check, Corrections, Find, Fragments, Pack, Snps, Unpack};
+use Verdict::{Absent, Accepted, First, No, Only, Refused, Yes};
 
 /// A kind's tables, and the least of them with each verdict: yes, no, refused by C alone, refused by rule 1 to 9.
 struct Kind {
@@ -53,23 +55,44 @@ const fn kind(name: &'static str, tables: usize, [yes, no, too_deep]: [usize; 3]
     Kind { name, tables, yes, no, too_deep, refused }
 }
 
-/// The calls of check for each table, with right and wrong column counts and answers.
-const CHECK_CALLS: usize = 11;
+/// The calls of each service for each table, right and wrong ones.
+const CALLS: [(Service, usize); 7] =
+    [(Unpack, 16), (Pack, 16), (Find, 6), (Check, 12), (Snps, 15), (Fragments, 15), (Corrections, 19)];
 
-/// What check must have returned, over all kinds.
-const CHECKED: [(Verdict, usize); 12] = [
-    (Yes, 7500),
-    (No, 7500),
-    (Refused(1), 1900),
-    (Refused(2), 1000),
-    (Refused(3), 14000),
-    (Refused(4), 6000),
-    (Refused(5), 800),
-    (Refused(6), 650),
-    (Refused(7), 550),
-    (Refused(8), 370),
-    (Refused(9), 370),
-    (Refused(11), 19000),
+/// What the calls of a service must have returned, over all kinds: the least of each acceptance and of refusals 1 to 12.
+struct Replies {
+    service: Service,
+    accepted: &'static [(Verdict, usize)],
+    refused: [usize; 12],
+}
+
+const REPLIES: [Replies; 7] = [
+    replies(Unpack, &[(Accepted, 16000)], [3100, 1500, 16000, 6200, 850, 700, 500, 390, 370, 0, 43000, 0]),
+    replies(Pack, &[(Accepted, 7800)], [44000, 480, 12000, 60, 0, 700, 0, 320, 700, 0, 20000, 0]),
+    replies(Find, &[(Only, 11000), (First, 5500), (Absent, 16000)], [0; 12]),
+    replies(Check, &[(Yes, 7500), (No, 7500)], [2200, 1100, 14000, 6200, 850, 680, 500, 380, 370, 0, 24000, 0]),
+    replies(Snps, &[(Yes, 7500), (No, 7500)], [2900, 1450, 15500, 6200, 850, 680, 500, 380, 370, 17000, 21500, 0]),
+    replies(Fragments, &[(Yes, 7500), (No, 7500)], [2900, 1450, 15500, 6200, 850, 680, 500, 380, 370, 17000, 21500, 0]),
+    replies(
+        Corrections,
+        &[(Yes, 7200), (No, 6300)],
+        [3700, 1900, 17000, 6200, 850, 680, 500, 380, 370, 17000, 41000, 1800],
+    ),
+];
+
+const fn replies(service: Service, accepted: &'static [(Verdict, usize)], refused: [usize; 12]) -> Replies {
+    Replies { service, accepted, refused }
+}
+
+/// What else the calls must have seen, over all kinds.
+const CALLED: [(Seen, usize); 7] = [
+    (Seen::LongWork(Snps), 11500),
+    (Seen::LongWork(Fragments), 11500),
+    (Seen::LongWork(Corrections), 10000),
+    (Seen::FoundInRagged, 700),
+    (Seen::FoundPastMost, 230),
+    (Seen::TableRoundTrip, 4000),
+    (Seen::CellsRoundTrip, 3700),
 ];
 
 /// What each method must have settled, over all kinds.
@@ -120,24 +143,32 @@ pub fn kind_names() -> Vec<&'static str> {
 
 pub fn demands(with_listing: bool) -> Vec<Demand> {
     let of_kinds = KINDS.iter().flat_map(|kind| kind.demands(with_listing));
-    let checked = CHECKED.map(|(verdict, least)| (Seen::Checked(verdict), least));
+    let returned = REPLIES.iter().flat_map(Replies::leasts);
     let settled = SETTLED.map(|(name, least)| (Seen::By(name), least));
     let in_pieces = with_listing.then_some((Seen::ListingInPieces, LISTINGS_IN_PIECES));
-    let of_all = checked.into_iter().chain(settled).chain(in_pieces);
+    let of_all = returned.chain(CALLED).chain(settled).chain(in_pieces);
     of_kinds.chain(of_all.map(|(seen, least)| Demand { kind: None, seen, number: Number::AtLeast(least) })).collect()
 }
 
 impl Kind {
     fn demands(&self, with_listing: bool) -> Vec<Demand> {
         let listings = if with_listing { self.tables } else { 0 };
-        let exact =
-            [(Seen::Table, self.tables), (Seen::Listing, listings), (Seen::CheckCall, CHECK_CALLS * self.tables)];
+        let calls = CALLS.map(|(service, calls)| (Seen::Call(service), calls * self.tables));
+        let exact = [(Seen::Table, self.tables), (Seen::Listing, listings)].into_iter().chain(calls);
         let verdicts = [(Seen::Listed(Yes), self.yes), (Seen::Listed(No), self.no), (Seen::TooDeep, self.too_deep)];
         let refused = (1..).zip(self.refused).map(|(rule, least)| (Seen::Listed(Refused(rule)), least));
         let least = verdicts.into_iter().chain(refused).filter(|&(_, least)| least > 0);
-        let exact = exact.into_iter().map(|(seen, count)| (seen, Number::Exactly(count)));
+        let exact = exact.map(|(seen, count)| (seen, Number::Exactly(count)));
         let all = exact.chain(least.map(|(seen, least)| (seen, Number::AtLeast(least))));
         all.map(|(seen, number)| Demand { kind: Some(self.name), seen, number }).collect()
+    }
+}
+
+impl Replies {
+    fn leasts(&self) -> impl Iterator<Item = (Seen, usize)> + '_ {
+        let refused = (1..).zip(self.refused).map(|(rule, least)| (Refused(rule), least));
+        let all = self.accepted.iter().copied().chain(refused).filter(|&(_, least)| least > 0);
+        all.map(|(verdict, least)| (Seen::Returned(self.service, verdict), least))
     }
 }
 

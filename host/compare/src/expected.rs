@@ -1,11 +1,10 @@
-//! What the listing and check must say of a table.
+//! What the methods and the rules make of a table.
 
 use crate::answer::Answers;
-use crate::library::Checked;
 use crate::listing::{self, MOST_BYTES};
 use crate::methods;
 use crate::record::{column_count, Matrix};
-use crate::rules::{check_fault, table_fault, Refusal};
+use crate::rules::{table_fault, Refusal};
 
 pub enum Outcome {
     Refused(Refusal),
@@ -45,16 +44,4 @@ pub fn methods(outcome: &Outcome) -> String {
         Outcome::Refused(_) => "the rules of a table".to_string(),
         Outcome::Accepted(table) => table.by.join(", "),
     }
-}
-
-/// What a call of check must return and leave in an answer filled with `fill`. Fails if two methods differ.
-pub fn checked(n: usize, table: &[u8], answer_length: usize, fill: u8) -> Result<Checked, String> {
-    let untouched = vec![fill; answer_length];
-    if let Some(refusal) = check_fault(n, table, answer_length) {
-        return Ok(Checked { code: (1000 * refusal.number + refusal.place) as u64, answer: untouched });
-    }
-    Ok(match methods::check(&Matrix::read(table, n))? {
-        Some(answer) => Checked { code: 0, answer: answer.bytes() },
-        None => Checked { code: 1, answer: untouched },
-    })
 }

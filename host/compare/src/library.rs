@@ -1,35 +1,112 @@
-//! Check as programs in C call it.
+//! The library under test: a function of a call, so that the self-test can put a wrong one in its place.
 
-use std::os::raw::c_ulonglong;
+use crate::guarded::{Guarded, Room};
+use crate::service::{Buffer, Service};
+use haplotypes::Outcome;
+use std::ops::Range;
 
-extern "C" {
-    fn haplotypes_check(
-        n: usize,
-        table: *const u8,
-        table_length: usize,
-        answer: *mut u8,
-        answer_length: usize,
-    ) -> c_ulonglong;
+/// What a call is lent. What its service does not take is empty.
+#[derive(Clone, Default)]
+pub struct Buffers {
+    pub table: Guarded<u8>,
+    pub cells: Guarded<u8>,
+    pub tags: Guarded<u32>,
+    pub work: Guarded<u16>,
+    pub answer: Guarded<u8>,
+    pub corrected: Guarded<u8>,
 }
 
-/// Bytes before and after the answer: none may be written.
-const MARGIN: usize = 64;
-
-/// What a call of check returned, and the answer's bytes after it.
-#[derive(PartialEq, Eq, Debug)]
-pub struct Checked {
-    pub code: u64,
-    pub answer: Vec<u8>,
+pub struct Call {
+    pub service: Service,
+    /// the column count; for find, the tag
+    pub number: usize,
+    pub lent: Buffers,
 }
 
-/// Calls check with an answer filled with `fill`. None if it wrote a byte beside its answer or changed the table.
-pub fn check(n: usize, table: &[u8], answer_length: usize, fill: u8) -> Option<Checked> {
-    let own = table.to_vec();
-    let mut room = vec![fill; MARGIN + answer_length + MARGIN];
-    let answer = room[MARGIN..MARGIN + answer_length].as_mut_ptr();
-    // both pointers are those of slices with the lengths given, so they are valid, and not null even where these are 0
-    let code = unsafe { haplotypes_check(n, own.as_ptr(), own.len(), answer, answer_length) };
-    let beside = room[..MARGIN].iter().chain(&room[MARGIN + answer_length..]);
-    let clean = own == table && beside.into_iter().all(|&byte| byte == fill);
-    clean.then(|| Checked { code, answer: room[MARGIN..MARGIN + answer_length].to_vec() })
+#[derive(Clone, PartialEq, Eq, Debug)]
+pub enum Returned {
+    Outcome(Outcome),
+    /// the bytes of the caller's table that find hands back, by their address
+    Part(Range<usize>),
+}
+
+/// It has the whole room of each buffer, guards and all.
+pub type Library<'a> = &'a (dyn Fn(&mut Call) -> Returned + Sync);
+
+/// The library that is linked.
+pub fn proved(call: &mut Call) -> Returned {
+    let n = call.number;
+    let Buffers { table, cells, tags, work, answer, corrected } = &mut call.lent;
+    Returned::Outcome(match call.service {
+        Service::Find => return Returned::Part(found(n as u32, table.lent())),
+        Service::Unpack => haplotypes::unpack(n, table.lent(), cells.lent_mut(), tags.lent_mut()),
+        Service::Pack => haplotypes::pack(n, cells.lent(), tags.lent(), table.lent_mut()),
+        Service::Check => haplotypes::check(n, table.lent(), answer.lent_mut()),
+        Service::Snps => haplotypes::least_snp_removal(n, table.lent(), work.lent_mut(), answer.lent_mut()),
+        Service::Fragments => haplotypes::least_fragment_removal(n, table.lent(), work.lent_mut(), answer.lent_mut()),
+        Service::Corrections => {
+            let work = work.lent_mut();
+            haplotypes::least_corrections(n, table.lent(), work, answer.lent_mut(), corrected.lent_mut())
+        }
+    })
+}
+
+fn found(tag: u32, table: &[u8]) -> Range<usize> {
+    let part = haplotypes::find(tag, table);
+    let start = (part.as_ptr() as usize).wrapping_sub(table.as_ptr() as usize);
+    start..start.wrapping_add(part.len())
+}
+
+impl Buffers {
+    /// The first element, of a buffer or a guard, that is not as expected.
+    pub fn difference(&self, found: &Buffers) -> Option<String> {
+        let differences = [
+            (Buffer::Table, self.table.difference(&found.table)),
+            (Buffer::Cells, self.cells.difference(&found.cells)),
+            (Buffer::Tags, self.tags.difference(&found.tags)),
+            (Buffer::Work, self.work.difference(&found.work)),
+            (Buffer::Answer, self.answer.difference(&found.answer)),
+            (Buffer::Corrected, self.corrected.difference(&found.corrected)),
+        ];
+        differences
+            .into_iter()
+            .find_map(|(buffer, difference)| Some(format!("in its {}, {}", buffer.name(), difference?)))
+    }
+
+    pub fn room(&self, buffer: Buffer) -> &dyn Room {
+        match buffer {
+            Buffer::Table => &self.table,
+            Buffer::Cells => &self.cells,
+            Buffer::Tags => &self.tags,
+            Buffer::Work => &self.work,
+            Buffer::Answer => &self.answer,
+            Buffer::Corrected => &self.corrected,
+        }
+    }
+
+    pub fn room_mut(&mut self, buffer: Buffer) -> &mut dyn Room {
+        match buffer {
+            Buffer::Table => &mut self.table,
+            Buffer::Cells => &mut self.cells,
+            Buffer::Tags => &mut self.tags,
+            Buffer::Work => &mut self.work,
+            Buffer::Answer => &mut self.answer,
+            Buffer::Corrected => &mut self.corrected,
+        }
+    }
+
+    /// The length of what is lent, without the guards.
+    pub fn length(&self, buffer: Buffer) -> usize {
+        self.room(buffer).lent_range().len()
+    }
+}
+
+impl Call {
+    /// The call in words, with the lengths of its buffers.
+    pub fn shown(&self) -> String {
+        let argument = if self.service == Service::Find { "tag" } else { "columns" };
+        let length = |buffer: &Buffer| format!(", {} {}", buffer.name(), self.lent.length(*buffer));
+        let lengths: String = self.service.buffers().iter().map(length).collect();
+        format!("{} with {argument} {}{lengths}", self.service.name(), self.number)
+    }
 }

@@ -1,17 +1,19 @@
-//! Compares the listing program and check's C export with methods of its own, on random tables: paper 01 by trying every
-//! choice, and exact methods for tables too large for that.
+//! Compares the proved services and the listing program with methods of its own, on random tables: paper 01 by trying
+//! every choice, and exact methods for tables too large for that.
 //!
 //! usage: compare [--seed N] LISTING       LISTING: the path of the listing program
-//!        compare [--seed N] --no-listing  only check and the methods
+//!        compare [--seed N] --no-listing  the services alone
 //!        compare --expect FILE            prints the listing of a table by the methods alone, and on standard error their names
 
 mod answer;
 mod brute;
+mod calls;
 mod compare;
 mod coverage;
 mod exact;
 mod expected;
 mod generate;
+mod guarded;
 mod library;
 mod listing;
 mod methods;
@@ -22,10 +24,12 @@ mod rules;
 mod runner;
 mod seen;
 mod self_test;
+mod service;
 #[cfg(test)]
 mod trials;
 
-use seen::Seen;
+use seen::{Counts, Seen};
+use service::Service;
 use std::fmt::Debug;
 use std::path::{Path, PathBuf};
 use std::process::ExitCode;
@@ -85,12 +89,28 @@ fn run(seed: u64, listing: Option<&Path>) -> Result<(), String> {
     let tallies = runner::run(seed, listing)?;
     coverage::complete(&tallies, listing.is_some())?;
     let all = runner::sum(&tallies).counts;
-    let [tables, listings, in_pieces, calls] =
-        [Seen::Table, Seen::Listing, Seen::ListingInPieces, Seen::CheckCall].map(|seen| all.of(seen));
-    println!(
-        "compare: {tables} tables, none skipped, {listings} listings ({in_pieces} more in pieces) and {calls} calls of check as expected; {noticed} wrong expectations noticed; seed {seed}"
-    );
+    println!("compare: {}; {} wrong ones noticed; seed {seed}", compared(&all), grouped(noticed));
     Ok(())
+}
+
+/// What was compared, each part with its number.
+fn compared(all: &Counts) -> String {
+    let [tables, listings, in_pieces] =
+        [Seen::Table, Seen::Listing, Seen::ListingInPieces].map(|seen| grouped(all.of(seen)));
+    let calls = Service::ALL.map(|service| format!("{} {}", service.name(), grouped(all.of(Seen::Call(service)))));
+    let round_trips = grouped(all.of(Seen::TableRoundTrip) + all.of(Seen::CellsRoundTrip));
+    format!(
+        "{tables} tables, none skipped: {listings} listings ({in_pieces} more in pieces), calls as expected: {}, \
+         round trips {round_trips}",
+        calls.join(", ")
+    )
+}
+
+/// A number with a comma before each three digits.
+fn grouped(number: usize) -> String {
+    let digits = number.to_string();
+    let comma = |at: usize| at > 0 && (digits.len() - at).is_multiple_of(3);
+    digits.chars().enumerate().flat_map(|(at, digit)| comma(at).then_some(',').into_iter().chain([digit])).collect()
 }
 
 /// Fails with both sides unless they are equal.

@@ -1,5 +1,7 @@
 //! The 32-byte record: its fields, its cells, and the matrix of a table.
 
+use std::ops::Range;
+
 pub const RECORD: usize = 32;
 pub const CELLS: usize = 96;
 
@@ -30,6 +32,10 @@ pub fn set_cell(record: &mut [u8], i: usize, code: u8) {
     *byte = *byte & !(3 << shift) | code << shift;
 }
 
+pub fn set_tag(record: &mut [u8], tag: u32) {
+    record[..4].copy_from_slice(&tag.to_le_bytes());
+}
+
 pub fn set_start(record: &mut [u8], start: u16) {
     record[4..6].copy_from_slice(&start.to_le_bytes());
 }
@@ -37,7 +43,7 @@ pub fn set_start(record: &mut [u8], start: u16) {
 /// The record of a fragment whose calls stand from column `start` on.
 pub fn record(tag: u32, start: usize, calls: &[u8]) -> [u8; RECORD] {
     let mut record = [0; RECORD];
-    record[..4].copy_from_slice(&tag.to_le_bytes());
+    set_tag(&mut record, tag);
     set_start(&mut record, start as u16);
     record[6] = calls.len() as u8;
     for (i, &code) in calls.iter().enumerate() {
@@ -46,8 +52,20 @@ pub fn record(tag: u32, start: usize, calls: &[u8]) -> [u8; RECORD] {
     record
 }
 
+/// The columns from a row's first call to its last.
+pub fn called(row: &[u8]) -> Range<usize> {
+    let first = row.iter().position(|&code| code != HOLE).unwrap_or(0);
+    let end = row.iter().rposition(|&code| code != HOLE).map_or(0, |last| last + 1);
+    first..end
+}
+
 pub fn whole_records(table: &[u8]) -> impl Iterator<Item = &[u8]> {
     table.chunks_exact(RECORD)
+}
+
+/// The positions of the whole records with a tag.
+pub fn places_of(wanted: u32, table: &[u8]) -> impl Iterator<Item = usize> + '_ {
+    (0..).zip(whole_records(table)).filter(move |(_, record)| tag(record) == wanted).map(|(place, _)| place)
 }
 
 /// The largest start + span of the whole records, 0 if there are none.
@@ -65,6 +83,11 @@ pub struct Matrix {
 impl Matrix {
     pub fn read(table: &[u8], n: usize) -> Matrix {
         Matrix { n, rows: whole_records(table).map(|r| row(r, n)).collect() }
+    }
+
+    /// The rows of m × n cells.
+    pub fn of_cells(n: usize, m: usize, cells: &[u8]) -> Matrix {
+        Matrix { n, rows: (0..m).map(|f| cells[n * f..n * (f + 1)].to_vec()).collect() }
     }
 
     pub fn m(&self) -> usize {

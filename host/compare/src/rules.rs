@@ -1,10 +1,12 @@
 //! The refusals of paper 01, in its order, straight from the bytes.
 
-use crate::record::{cell, span, start, tag, whole_records, Matrix, A, B, CELLS, HOLE, RECORD};
+use crate::record::{called, cell, span, start, tag, whole_records, Matrix, A, B, CELLS, HOLE, RECORD};
+use crate::service::Buffer;
 
 pub const MOST_FRAGMENTS: usize = 128;
 pub const MOST_COLUMNS: usize = 128;
 pub const MOST_CALLS_OF_A_COLUMN: usize = 8;
+pub const LEAST_WORK: usize = 32768;
 
 #[derive(Clone, Copy, PartialEq, Eq, Debug)]
 pub struct Refusal {
@@ -17,14 +19,23 @@ pub fn table_fault(n: usize, table: &[u8]) -> Option<Refusal> {
     size_fault(n, table).or_else(|| records_fault(n, table))
 }
 
-/// The first fault of a call of check: its answer's length (11) is tested between the sizes and the records.
-pub fn check_fault(n: usize, table: &[u8], answer_length: usize) -> Option<Refusal> {
-    size_fault(n, table)
+/// The first fault of a call on a table, but for C's own. What it lends, each buffer with its length, is tested between
+/// the sizes and the records.
+pub fn call_fault(n: usize, table: &[u8], lent: &[(Buffer, usize)]) -> Option<Refusal> {
+    let m = table.len() / RECORD;
+    size_fault(n, table).or_else(|| lent_fault(n, m, lent)).or_else(|| records_fault(n, table))
+}
+
+/// The first fault of a call of pack: 3, 1, 2, 11, and then the fragments by 6, 4, 8, 9.
+pub fn pack_fault(n: usize, cells: &[u8], tags: &[u32], table_length: usize) -> Option<Refusal> {
+    let m = tags.len();
+    first_broken(&[(3, n > MOST_COLUMNS)])
+        .or_else(|| first_broken(&[(1, cells.len() != m * n), (2, m > MOST_FRAGMENTS)]))
+        .or_else(|| lent_fault(n, m, &[(Buffer::Table, table_length)]))
         .or_else(|| {
-            let exact = 3 * n + 2 * (table.len() / RECORD);
-            (answer_length != exact).then_some(Refusal { number: 11, place: 0 })
+            let rows = Matrix::of_cells(n, m, cells).rows;
+            (0..m).find_map(|place| fragment_fault(&rows[place], tags, place).map(|number| Refusal { number, place }))
         })
-        .or_else(|| records_fault(n, table))
 }
 
 /// C's own fault: over 8 calls in a column, the lowest such column.
@@ -33,9 +44,32 @@ pub fn too_deep(matrix: &Matrix) -> Option<Refusal> {
 }
 
 fn size_fault(n: usize, table: &[u8]) -> Option<Refusal> {
-    let broken =
-        [(3, n > MOST_COLUMNS), (1, !table.len().is_multiple_of(RECORD)), (2, table.len() / RECORD > MOST_FRAGMENTS)];
-    broken.iter().find(|rule| rule.1).map(|rule| Refusal { number: rule.0, place: 0 })
+    let (ragged, m) = (!table.len().is_multiple_of(RECORD), table.len() / RECORD);
+    first_broken(&[(3, n > MOST_COLUMNS), (1, ragged), (2, m > MOST_FRAGMENTS)])
+}
+
+/// Of what a call lends, work can be short (10), and every other length is exact (11).
+fn lent_fault(n: usize, m: usize, lent: &[(Buffer, usize)]) -> Option<Refusal> {
+    let (work, outputs): (Vec<_>, Vec<_>) = lent.iter().partition(|(buffer, _)| *buffer == Buffer::Work);
+    let short = work.iter().any(|&&(_, length)| length < LEAST_WORK);
+    let inexact = outputs.iter().any(|&&(buffer, length)| length != buffer.length(n, m));
+    first_broken(&[(10, short), (11, inexact)])
+}
+
+/// The first rule of a table or a call as a whole, which has place 0.
+fn first_broken(rules: &[(usize, bool)]) -> Option<Refusal> {
+    rules.iter().find(|rule| rule.1).map(|rule| Refusal { number: rule.0, place: 0 })
+}
+
+fn fragment_fault(row: &[u8], tags: &[u32], place: usize) -> Option<usize> {
+    let called = called(row);
+    let broken = [
+        (6, row.iter().any(|&code| code > B)),
+        (4, called.len() > CELLS),
+        (8, row[called].contains(&HOLE)),
+        (9, tags[..place].contains(&tags[place])),
+    ];
+    broken.iter().find(|rule| rule.1).map(|rule| rule.0)
 }
 
 fn records_fault(n: usize, table: &[u8]) -> Option<Refusal> {

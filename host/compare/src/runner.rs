@@ -8,6 +8,7 @@ use crate::record::{column_count, Matrix};
 use crate::rng::Rng;
 use crate::rules::table_fault;
 use crate::seen::{Counts, Seen, Verdict};
+use crate::service::Service;
 use std::path::Path;
 use std::sync::atomic::{AtomicBool, AtomicUsize, Ordering};
 use std::sync::Mutex;
@@ -126,10 +127,28 @@ fn print_tallies(tallies: &[Tally]) {
     tallies.iter().for_each(print_tally);
     let all = sum(tallies);
     print_tally(&all);
-    let checked = [Verdict::Yes, Verdict::No].map(|verdict| all.counts.of(Seen::Checked(verdict)));
-    println!("check: {} yes, {} no, refused {}", checked[0], checked[1], all.counts.refusals(Seen::Checked));
+    Service::ALL.iter().for_each(|&service| println!("{}: {}", service.name(), returned(&all.counts, service)));
+    let [tables, cells] = [Seen::TableRoundTrip, Seen::CellsRoundTrip].map(|seen| all.counts.of(seen));
+    println!("round trips: tables {tables}, cells {cells}");
     let settled = methods::all().map(|method| format!("{} {}", method.name, all.counts.of(Seen::By(method.name))));
     println!("settled: {}", settled.collect::<Vec<_>>().join(", "));
+}
+
+/// What the calls of a service returned, and how often.
+fn returned(counts: &Counts, service: Service) -> String {
+    let verdicts = [Verdict::Yes, Verdict::No, Verdict::Accepted, Verdict::Only, Verdict::First, Verdict::Absent];
+    let mut named = verdicts.map(|verdict| (format!("{verdict:?}"), Seen::Returned(service, verdict))).to_vec();
+    named.push(("with over-long work".to_string(), Seen::LongWork(service)));
+    if service == Service::Find {
+        named.push(("in a ragged table".to_string(), Seen::FoundInRagged));
+        named.push(("at 128 or later".to_string(), Seen::FoundPastMost));
+    }
+    let seen = named.into_iter().map(|(name, seen)| (name.to_lowercase(), counts.of(seen)));
+    let mut parts: Vec<String> =
+        seen.filter(|&(_, count)| count > 0).map(|(name, count)| format!("{count} {name}")).collect();
+    let refusals = counts.refusals(|verdict| Seen::Returned(service, verdict));
+    parts.extend((!refusals.is_empty()).then(|| format!("refused {refusals}")));
+    parts.join(", ")
 }
 
 fn print_tally(tally: &Tally) {

@@ -1,7 +1,7 @@
 //! What a run has seen, counted.
 
 use crate::expected::Outcome;
-use crate::library::Checked;
+use crate::service::Service;
 use std::collections::BTreeMap;
 
 #[derive(Clone, Copy, PartialEq, Eq, PartialOrd, Ord, Debug)]
@@ -15,16 +15,32 @@ pub enum Seen {
     By(&'static str),
     Listing,
     ListingInPieces,
-    CheckCall,
-    /// what a call of check returns
-    Checked(Verdict),
+    Call(Service),
+    Returned(Service, Verdict),
+    /// an acceptance with more work than the least
+    LongWork(Service),
+    /// a record that find hands back of a table with a part of a record at its end
+    FoundInRagged,
+    /// a record that find hands back at position 128 or later
+    FoundPastMost,
+    /// a table unpacked and packed again
+    TableRoundTrip,
+    /// cells and tags packed and unpacked again
+    CellsRoundTrip,
 }
 
 #[derive(Clone, Copy, PartialEq, Eq, PartialOrd, Ord, Debug)]
 pub enum Verdict {
+    /// error-free: check's yes, and nothing to remove or correct
     Yes,
     No,
+    /// by unpack or pack
+    Accepted,
     Refused(usize),
+    /// what find hands back: the only record with the tag, the first of several, or none
+    Only,
+    First,
+    Absent,
 }
 
 #[derive(Clone, Default)]
@@ -58,13 +74,8 @@ impl Counts {
         }
     }
 
-    pub fn add_check(&mut self, checked: &Checked) {
-        self.add(Seen::CheckCall, 1);
-        self.add(Seen::Checked(checked.verdict()), 1);
-    }
-
     /// The refusals that occurred, as rule:times.
-    pub fn refusals(&self, of: fn(Verdict) -> Seen) -> String {
+    pub fn refusals(&self, of: impl Fn(Verdict) -> Seen) -> String {
         let counts = (1..=12).map(|rule| (rule, self.of(of(Verdict::Refused(rule)))));
         let shown = counts.filter(|&(_, count)| count > 0).map(|(rule, count)| format!("{rule}:{count}"));
         shown.collect::<Vec<_>>().join(" ")
@@ -76,15 +87,5 @@ fn verdict(outcome: &Outcome) -> Verdict {
         Outcome::Refused(refusal) => Verdict::Refused(refusal.number),
         Outcome::Accepted(table) if table.answers.check.is_some() => Verdict::Yes,
         Outcome::Accepted(_) => Verdict::No,
-    }
-}
-
-impl Checked {
-    fn verdict(&self) -> Verdict {
-        match self.code {
-            0 => Verdict::Yes,
-            1 => Verdict::No,
-            refusal => Verdict::Refused((refusal / 1000) as usize),
-        }
     }
 }

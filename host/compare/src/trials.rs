@@ -1,10 +1,12 @@
 //! Paper 01's trials, for every method.
 
 use crate::answer::Answers;
-use crate::record::{column_count, record, Matrix, RECORD};
-use crate::rules::{check_fault, table_fault, too_deep, Refusal};
+use crate::record::{called, column_count, places_of, record, Matrix, RECORD};
+use crate::rng::Rng;
+use crate::rules::{call_fault, pack_fault, table_fault, too_deep, Refusal};
 use crate::self_test::{printed_table, PRINTED_LISTING};
-use crate::{listing, methods};
+use crate::service::Buffer::{Answer, Corrected, Work};
+use crate::{brute, generate, listing, methods};
 
 /// A table of fragments as the paper writes them, one letter to a column.
 fn table(fragments: &[&str]) -> Vec<u8> {
@@ -76,12 +78,13 @@ fn aa_ab_ba() {
 
 #[test]
 fn aa_ab_ba_bb() {
-    let (_, answers) = answers(&["AA", "AB", "BA", "BB"]);
+    let (matrix, answers) = answers(&["AA", "AB", "BA", "BB"]);
     assert_eq!(answers.snps.count, 1);
     assert_eq!((answers.fragments.count, answers.fragments.sides), (2, vec![1, 2, 0, 0]));
     let corrections = answers.corrections.expect("shallow");
-    assert_eq!((corrections.count, corrections.sides), (2, vec![1, 1, 1, 2]));
+    assert_eq!((corrections.count, &corrections.sides), (2, &vec![1, 1, 1, 2]));
     assert_eq!(corrections.haplotypes, [[1, 1], [2, 2]]);
+    assert_eq!(brute::corrected(&matrix, &corrections.sides).rows, [[1, 1], [1, 1], [1, 1], [2, 2]]);
 }
 
 #[test]
@@ -100,9 +103,10 @@ fn a_column_that_no_one_calls() {
 #[test]
 fn start_and_span_within_the_columns() {
     let bytes = table(&["-AB"]);
-    assert_eq!(check_fault(3, &bytes, 11), None);
-    assert_eq!(check_fault(2, &bytes, 8), refusal(4, 0));
-    assert_eq!(check_fault(3, &bytes, 10), refusal(11, 0));
+    let answered = |n: usize, length: usize| call_fault(n, &bytes, &[(Answer, length)]);
+    assert_eq!(answered(3, 11), None);
+    assert_eq!(answered(2, 8), refusal(4, 0));
+    assert_eq!(answered(3, 10), refusal(11, 0));
 }
 
 #[test]
@@ -124,4 +128,79 @@ fn eight_calls_of_a_column_and_nine() {
     let rows = |count: usize| Matrix { n: 2, rows: vec![vec![0, 1]; count] };
     assert_eq!(too_deep(&rows(8)), None);
     assert_eq!(too_deep(&rows(9)), refusal(12, 1));
+}
+
+#[test]
+fn lengths_of_what_is_lent() {
+    let bytes = table(&["AB"]);
+    let fault = |lent| call_fault(2, &bytes, lent);
+    assert_eq!(fault(&[(Work, 32768), (Answer, 8), (Corrected, 32)]), None);
+    assert_eq!(fault(&[(Work, 40000), (Answer, 8), (Corrected, 32)]), None);
+    assert_eq!(fault(&[(Work, 32767), (Answer, 9), (Corrected, 32)]), refusal(10, 0));
+    assert_eq!(fault(&[(Work, 32768), (Answer, 9), (Corrected, 32)]), refusal(11, 0));
+    assert_eq!(fault(&[(Work, 32768), (Answer, 8), (Corrected, 31)]), refusal(11, 0));
+    assert_eq!(call_fault(usize::MAX, &bytes, &[(Work, 0), (Answer, 8)]), refusal(3, 0));
+    assert_eq!(call_fault(1, &bytes, &[(Work, 32768), (Answer, 5)]), refusal(4, 0));
+}
+
+#[test]
+fn sizes_of_cells() {
+    let fault = |n: usize, cells: usize, tags: u32, table: usize| {
+        pack_fault(n, &vec![0; cells], &(0..tags).collect::<Vec<u32>>(), table)
+    };
+    assert_eq!(fault(128, 128 * 128, 128, 4096), None);
+    assert_eq!(fault(0, 0, 2, 64), None);
+    assert_eq!(fault(129, 0, 129, 0), refusal(3, 0));
+    assert_eq!(fault(2, 3, 129, 0), refusal(1, 0));
+    assert_eq!(fault(2, 258, 129, 0), refusal(2, 0));
+    assert_eq!(fault(2, 2, 1, 33), refusal(11, 0));
+}
+
+#[test]
+fn faults_of_cells() {
+    let fault = |cells: &[u8], tags: &[u32]| pack_fault(cells.len() / tags.len(), cells, tags, RECORD * tags.len());
+    assert_eq!(fault(&[0, 1, 2, 0, 0, 0], &[7, 8]), None);
+    assert_eq!(fault(&[0, 1, 2, 1, 0, 2], &[7, 8]), refusal(8, 1));
+    assert_eq!(fault(&[0, 1, 2, 1, 0, 3], &[7, 8]), refusal(6, 1));
+    assert_eq!(fault(&[0, 1, 2, 1, 1, 2], &[7, 7]), refusal(9, 1));
+    let wide = |calls: usize| [vec![0; 9], vec![1; calls], vec![0; 9]].concat();
+    assert_eq!(fault(&wide(96), &[7]), None);
+    assert_eq!(fault(&wide(97), &[7]), refusal(4, 0));
+    let far = |between: usize| [vec![1], vec![0; between], vec![1]].concat();
+    assert_eq!(fault(&far(94), &[7]), refusal(8, 0));
+    assert_eq!(fault(&far(95), &[7]), refusal(4, 0));
+}
+
+#[test]
+fn the_called_columns_of_a_row() {
+    assert_eq!(called(&[0, 1, 2, 0]), 1..3);
+    assert_eq!(called(&[1, 0, 2]), 0..3);
+    assert_eq!(called(&[0, 0]), 0..0);
+    assert_eq!(called(&[]), 0..0);
+}
+
+#[test]
+fn places_of_a_tag() {
+    let bytes = [record(5, 0, &[1]), record(6, 0, &[1]), record(5, 0, &[1])].concat();
+    let places = |wanted: u32, length: usize| places_of(wanted, &bytes[..length]).collect::<Vec<_>>();
+    assert_eq!(places(5, 96), [0, 2]);
+    assert_eq!(places(5, 95), [0]);
+    assert_eq!(places(7, 96), []);
+    assert_eq!(places(5, 31), []);
+}
+
+/// Columns without calls change no answer but by holes at the end, whichever method gives it.
+#[test]
+fn wider_tables() {
+    for index in 0..200 {
+        let rng = &mut Rng::for_table(1, index);
+        let bytes = generate::kinds()[1 + index % 6].table(rng);
+        let (n, wide) = (column_count(&bytes), column_count(&bytes) + 3);
+        let (narrow, _) = methods::answers(&Matrix::read(&bytes, n)).expect("the methods agree");
+        let (found, _) = methods::answers(&Matrix::read(&bytes, wide)).expect("the methods agree");
+        assert_eq!(found.check, narrow.check.map(|answer| answer.widened(wide)));
+        assert_eq!(found.snps, narrow.snps.widened(wide));
+        assert_eq!(found.fragments, narrow.fragments.widened(wide));
+        assert_eq!(found.corrections, narrow.corrections.map(|answer| answer.widened(wide)));
+    }
 }

@@ -1,11 +1,14 @@
-//! Random tables of every kind.
+//! Random tables of every kind, and random cells.
 
+mod cells;
 mod faulty;
 mod large;
 mod rows;
 mod small;
 
 use crate::rng::Rng;
+
+pub use cells::{cells, Cells};
 
 pub struct Kind {
     pub name: &'static str,

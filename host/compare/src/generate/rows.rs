@@ -17,7 +17,7 @@ pub fn table(rng: &mut Rng, mut rows: Vec<Row>) -> Vec<u8> {
 }
 
 /// Different tags: counted, random, or different in one byte only.
-fn tags(rng: &mut Rng, count: usize) -> Vec<u32> {
+pub fn tags(rng: &mut Rng, count: usize) -> Vec<u32> {
     let base = rng.next() as u32;
     let style = rng.below(6);
     let mut used = HashSet::new();

@@ -1,0 +1,114 @@
+//! What a call must return and leave in its buffers, by the rules, the definitions and the methods.
+
+use crate::answer::Answer;
+use crate::brute;
+use crate::expected::{Accepted, Outcome as TableOutcome};
+use crate::library::{Buffers, Call, Returned};
+use crate::record::{called, places_of, record, set_cell, span, start, tag, whole_records, Matrix, RECORD};
+use crate::rules::{call_fault, pack_fault, Refusal};
+use crate::service::{Buffer, Service};
+use haplotypes::Outcome;
+use std::ops::Range;
+
+pub struct Expected {
+    pub returned: Returned,
+    pub after: Buffers,
+}
+
+/// Of a service on a table, `table` being what the methods make of it.
+pub fn of_call(call: &Call, table: &TableOutcome) -> Expected {
+    let lent = call.service.buffers().into_iter().filter(|&buffer| buffer != Buffer::Table);
+    let lengths: Vec<(Buffer, usize)> = lent.map(|buffer| (buffer, call.lent.length(buffer))).collect();
+    if let Some(refusal) = call_fault(call.number, call.lent.table.lent(), &lengths) {
+        return refused(call, refusal);
+    }
+    let TableOutcome::Accepted(table) = table else {
+        unreachable!("a fault for its own column count is one for every other");
+    };
+    let n = call.number;
+    match (call.service, &table.answers.corrections) {
+        (Service::Corrections, Err(refusal)) => refused(call, *refusal),
+        (Service::Corrections, Ok(answer)) => accepted(call, |after| {
+            after.corrected.put(&corrected_table(call.lent.table.lent(), table, answer));
+            least(n, answer, after)
+        }),
+        (Service::Snps, _) => accepted(call, |after| least(n, &table.answers.snps, after)),
+        (Service::Fragments, _) => accepted(call, |after| least(n, &table.answers.fragments, after)),
+        (Service::Check, _) => accepted(call, |after| checked(n, &table.answers.check, after)),
+        _ => accepted(call, |after| unpacked(n, after)),
+    }
+}
+
+pub fn of_pack(call: &Call) -> Expected {
+    let Buffers { table, cells, tags, .. } = &call.lent;
+    match pack_fault(call.number, cells.lent(), tags.lent(), table.lent().len()) {
+        Some(refusal) => refused(call, refusal),
+        None => accepted(call, |after| packed(call.number, after)),
+    }
+}
+
+pub fn of_find(call: &Call) -> Expected {
+    let part = first_with(call.number as u32, call.lent.table.lent());
+    Expected { returned: Returned::Part(part), after: call.lent.clone() }
+}
+
+/// A refusal writes nothing.
+fn refused(call: &Call, refusal: Refusal) -> Expected {
+    let outcome = Outcome::Refused(refusal.number as u8, refusal.place);
+    Expected { returned: Returned::Outcome(outcome), after: call.lent.clone() }
+}
+
+/// `fill` writes what the call must, and gives the count.
+fn accepted(call: &Call, fill: impl FnOnce(&mut Buffers) -> usize) -> Expected {
+    let mut after = call.lent.clone();
+    let count = fill(&mut after);
+    Expected { returned: Returned::Outcome(Outcome::Accepted(count)), after }
+}
+
+fn unpacked(n: usize, after: &mut Buffers) -> usize {
+    let tags: Vec<u32> = whole_records(after.table.lent()).map(tag).collect();
+    after.cells.put(&Matrix::read(after.table.lent(), n).rows.concat());
+    after.tags.put(&tags);
+    tags.len()
+}
+
+fn packed(n: usize, after: &mut Buffers) -> usize {
+    let rows = Matrix::of_cells(n, after.tags.lent().len(), after.cells.lent()).rows;
+    let packed = |(row, &tag): (&Vec<u8>, &u32)| record(tag, called(row).start, &row[called(row)]);
+    let table: Vec<u8> = rows.iter().zip(after.tags.lent()).flat_map(packed).collect();
+    after.table.put(&table);
+    rows.len()
+}
+
+/// The first whole record with the tag; the empty part at the table's end where none has it.
+fn first_with(wanted: u32, table: &[u8]) -> Range<usize> {
+    match places_of(wanted, table).next() {
+        Some(place) => RECORD * place..RECORD * (place + 1),
+        None => table.len()..table.len(),
+    }
+}
+
+/// A no leaves the answer untouched.
+fn checked(n: usize, answer: &Option<Answer>, after: &mut Buffers) -> usize {
+    if let Some(answer) = answer {
+        after.answer.put(&answer.widened(n).bytes());
+    }
+    answer.is_none() as usize
+}
+
+/// S, F and C fill the answer and leave the work all zero, however long it is.
+fn least(n: usize, answer: &Answer, after: &mut Buffers) -> usize {
+    after.answer.put(&answer.widened(n).bytes());
+    after.work.lent_mut().fill(0);
+    answer.count
+}
+
+/// The table with the corrected calls in their cells, and every other bit as it was.
+fn corrected_table(table: &[u8], accepted: &Accepted, answer: &Answer) -> Vec<u8> {
+    let corrected = brute::corrected(&accepted.matrix, &answer.sides);
+    let mut bytes = table.to_vec();
+    for (record, row) in bytes.chunks_exact_mut(RECORD).zip(&corrected.rows) {
+        (0..span(record)).for_each(|i| set_cell(record, i, row[start(record) + i]));
+    }
+    bytes
+}

@@ -1,0 +1,81 @@
+//! The calls of every service for one table, and for pack's cells, each compared with what is expected.
+
+mod expected;
+mod find;
+mod pack;
+pub mod round_trips;
+mod sizes;
+
+use crate::agree;
+use crate::expected::Outcome as TableOutcome;
+use crate::generate::Cells;
+use crate::guarded::Guarded;
+use crate::library::{Buffers, Call, Library, Returned};
+use crate::record::{column_count, RECORD};
+use crate::rng::Rng;
+use crate::rules::LEAST_WORK;
+use crate::seen::{Counts, Seen, Verdict};
+use crate::service::Service;
+use expected::Expected;
+use haplotypes::Outcome;
+use sizes::Sizes;
+
+/// A table, and what the methods make of it.
+pub struct Table<'a> {
+    pub bytes: &'a [u8],
+    pub outcome: &'a TableOutcome,
+}
+
+/// The services that are called with a table and a column count.
+const ON_TABLES: [Service; 5] =
+    [Service::Unpack, Service::Check, Service::Snps, Service::Fragments, Service::Corrections];
+
+/// Every service: right calls and wrong ones, and both round trips. Pack has cells of its own.
+pub fn all(library: Library, table: &Table, cells: &Cells, rng: &mut Rng) -> Result<Counts, String> {
+    let mut counts = Counts::default();
+    for service in ON_TABLES {
+        for sizes in sizes::of_calls(service, column_count(table.bytes), table.bytes.len() / RECORD, rng) {
+            let call = on_table(service, table.bytes, sizes, rng);
+            let expected = expected::of_call(&call, table.outcome);
+            compared(library, call, expected, &mut counts)?;
+        }
+    }
+    find::all(library, table.bytes, rng, &mut counts)?;
+    pack::all(library, cells, rng, &mut counts)?;
+    counts.add(Seen::TableRoundTrip, round_trips::of_table(library, table.bytes, rng)? as usize);
+    counts.add(Seen::CellsRoundTrip, round_trips::of_cells(library, cells, rng)? as usize);
+    Ok(counts)
+}
+
+fn on_table(service: Service, table: &[u8], sizes: Sizes, rng: &mut Rng) -> Call {
+    let mut lent = Buffers { table: Guarded::holding(table, rng), ..Buffers::default() };
+    for &buffer in service.buffers().iter().filter(|buffer| !service.reads().contains(buffer)) {
+        lent.room_mut(buffer).lend_dirty(sizes.of(buffer), rng);
+    }
+    Call { service, number: sizes.n, lent }
+}
+
+/// Makes a call. What it returns and every element of what it is lent, guards and inputs too, must be as expected.
+fn compared(library: Library, mut call: Call, expected: Expected, counts: &mut Counts) -> Result<(), String> {
+    let returned = library(&mut call);
+    let outcome = agree("returned", &expected.returned, &returned);
+    if let Some(difference) = outcome.err().or_else(|| expected.after.difference(&call.lent)) {
+        return Err(format!("{}: {difference}", call.shown()));
+    }
+    counts.add(Seen::Call(call.service), 1);
+    if let Returned::Outcome(outcome) = returned {
+        counts.add(Seen::Returned(call.service, verdict(call.service, outcome)), 1);
+        let long_work = matches!(outcome, Outcome::Accepted(_)) && call.lent.work.lent().len() > LEAST_WORK;
+        counts.add(Seen::LongWork(call.service), long_work as usize);
+    }
+    Ok(())
+}
+
+fn verdict(service: Service, outcome: Outcome) -> Verdict {
+    match outcome {
+        Outcome::Refused(number, _) => Verdict::Refused(number as usize),
+        Outcome::Accepted(_) if matches!(service, Service::Unpack | Service::Pack) => Verdict::Accepted,
+        Outcome::Accepted(0) => Verdict::Yes,
+        Outcome::Accepted(_) => Verdict::No,
+    }
+}

@@ -1,0 +1,61 @@
+//! Both round trips. Nothing but what went in says what must come out.
+
+use super::expected::Expected;
+use super::sizes::Sizes;
+use super::{compared, on_table, pack};
+use crate::generate::Cells;
+use crate::library::{Buffers, Call, Library, Returned};
+use crate::record::{column_count, RECORD};
+use crate::rng::Rng;
+use crate::rules::{pack_fault, table_fault, MOST_COLUMNS};
+use crate::seen::Counts;
+use crate::service::Service;
+use haplotypes::Outcome;
+
+/// Unpacks a table and packs what came out: the table's bytes. False if the rules refuse the table.
+pub fn of_table(library: Library, table: &[u8], rng: &mut Rng) -> Result<bool, String> {
+    let least = column_count(table);
+    if table_fault(least, table).is_some() {
+        return Ok(false);
+    }
+    let n = rng.between(least, MOST_COLUMNS);
+    let Buffers { cells, tags, .. } = made(library, unpack(n, table, rng)).lent;
+    let call = pack::call(n, cells.lent(), tags.lent(), table.len(), rng);
+    let mut after = call.lent.clone();
+    after.table.put(table);
+    comes_back(library, call, after, table.len() / RECORD)?;
+    Ok(true)
+}
+
+/// Packs cells and tags and unpacks the table that came out: the cells and tags. False if the rules refuse the cells.
+pub fn of_cells(library: Library, given: &Cells, rng: &mut Rng) -> Result<bool, String> {
+    let Cells { n, cells, tags } = given;
+    let length = RECORD * tags.len();
+    if pack_fault(*n, cells, tags, length).is_some() {
+        return Ok(false);
+    }
+    let packed = made(library, pack::call(*n, cells, tags, length, rng)).lent.table;
+    let call = unpack(*n, packed.lent(), rng);
+    let mut after = call.lent.clone();
+    after.cells.put(cells);
+    after.tags.put(tags);
+    comes_back(library, call, after, tags.len()).map_err(|difference| format!("{difference}\n{}", given.shown()))?;
+    Ok(true)
+}
+
+fn unpack(n: usize, table: &[u8], rng: &mut Rng) -> Call {
+    let sizes = Sizes::right(n, table.len() / RECORD, rng);
+    on_table(Service::Unpack, table, sizes, rng)
+}
+
+/// The way there: only what comes back is compared.
+fn made(library: Library, mut call: Call) -> Call {
+    library(&mut call);
+    call
+}
+
+fn comes_back(library: Library, call: Call, after: Buffers, m: usize) -> Result<(), String> {
+    let expected = Expected { returned: Returned::Outcome(Outcome::Accepted(m)), after };
+    let there_and_back = |difference| format!("round trip, back by {difference}");
+    compared(library, call, expected, &mut Counts::default()).map_err(there_and_back)
+}

@@ -1,0 +1,105 @@
+//! The seven services, and the buffers that each is lent.
+
+use crate::record::RECORD;
+use crate::rules::LEAST_WORK;
+use Buffer::{Answer, Cells, Corrected, Table, Tags, Work};
+
+#[derive(Clone, Copy, PartialEq, Eq, PartialOrd, Ord, Debug)]
+pub enum Service {
+    Unpack,
+    Pack,
+    Find,
+    Check,
+    Snps,
+    Fragments,
+    Corrections,
+}
+
+#[derive(Clone, Copy, PartialEq, Eq, Debug)]
+pub enum Buffer {
+    Table,
+    Cells,
+    Tags,
+    Work,
+    Answer,
+    Corrected,
+}
+
+impl Service {
+    pub const ALL: [Service; 7] = [
+        Service::Unpack,
+        Service::Pack,
+        Service::Find,
+        Service::Check,
+        Service::Snps,
+        Service::Fragments,
+        Service::Corrections,
+    ];
+
+    pub fn name(self) -> &'static str {
+        match self {
+            Service::Unpack => "unpack",
+            Service::Pack => "pack",
+            Service::Find => "find",
+            Service::Check => "check",
+            Service::Snps => "S",
+            Service::Fragments => "F",
+            Service::Corrections => "C",
+        }
+    }
+
+    pub fn reads(self) -> &'static [Buffer] {
+        match self {
+            Service::Pack => &[Cells, Tags],
+            _ => &[Table],
+        }
+    }
+
+    /// What it fills where it accepts. Each must have its exact length.
+    pub fn fills(self) -> &'static [Buffer] {
+        match self {
+            Service::Unpack => &[Cells, Tags],
+            Service::Pack => &[Table],
+            Service::Find => &[],
+            Service::Check | Service::Snps | Service::Fragments => &[Answer],
+            Service::Corrections => &[Answer, Corrected],
+        }
+    }
+
+    pub fn borrows_work(self) -> bool {
+        matches!(self, Service::Snps | Service::Fragments | Service::Corrections)
+    }
+
+    /// All that it is lent.
+    pub fn buffers(self) -> Vec<Buffer> {
+        let work: &[Buffer] = if self.borrows_work() { &[Work] } else { &[] };
+        [self.reads(), work, self.fills()].concat()
+    }
+}
+
+impl Buffer {
+    pub const COUNT: usize = 6;
+    pub const ALL: [Buffer; Buffer::COUNT] = [Table, Cells, Tags, Work, Answer, Corrected];
+
+    pub fn name(self) -> &'static str {
+        match self {
+            Table => "table",
+            Cells => "cells",
+            Tags => "tags",
+            Work => "work",
+            Answer => "answer",
+            Corrected => "corrected table",
+        }
+    }
+
+    /// The elements that it must have, and of work the least.
+    pub fn length(self, n: usize, m: usize) -> usize {
+        match self {
+            Table | Corrected => RECORD * m,
+            Cells => m * n,
+            Tags => m,
+            Work => LEAST_WORK,
+            Answer => 3 * n + 2 * m,
+        }
+    }
+}
