@@ -2,12 +2,12 @@
 
 use crate::rng::Rng;
 use std::fmt::Debug;
-use std::ops::Range;
+use std::ops::{BitXorAssign, Range};
 
 /// The guard elements before a buffer, and as many after it.
 const GUARDS: usize = 64;
 
-pub trait Element: Copy + PartialEq + Debug {
+pub trait Element: Copy + PartialEq + Debug + BitXorAssign {
     fn low_bits(bits: u64) -> Self;
 }
 
@@ -92,6 +92,9 @@ fn random<T: Element>(length: usize, rng: &mut Rng) -> Vec<T> {
 pub trait Room {
     fn lend_dirty(&mut self, length: usize, rng: &mut Rng);
     fn lent_range(&self) -> Range<usize>;
+    fn length(&self) -> usize;
+    /// Changes an element, of the buffer or a guard, as a wrong library does.
+    fn flip(&mut self, at: usize);
 }
 
 impl<T: Element> Room for Guarded<T> {
@@ -101,5 +104,13 @@ impl<T: Element> Room for Guarded<T> {
 
     fn lent_range(&self) -> Range<usize> {
         self.lent.clone()
+    }
+
+    fn length(&self) -> usize {
+        self.room.len()
+    }
+
+    fn flip(&mut self, at: usize) {
+        self.room[at] ^= T::low_bits(1);
     }
 }

@@ -1,6 +1,8 @@
 //! Shows that the comparison can fail: what paper 01 prints passes, and with any one letter changed it does not. A
 //! library that is wrong in one way is noticed, a method that differs, and a run that has seen too little.
 
+mod wrong_libraries;
+
 use crate::compare::{listing_says, same_text};
 use crate::coverage::{self, Demand};
 use crate::methods::{settled, Method, FRAGMENTS, SNPS};
@@ -38,7 +40,7 @@ pub fn run(listing: Option<&Path>) -> Result<usize, String> {
         }
         noticed += 1;
     }
-    Ok(noticed + wrong_methods()? + too_little_seen(false)? + too_little_seen(true)?)
+    Ok(noticed + wrong_libraries::noticed()? + wrong_methods()? + too_little_seen(false)? + too_little_seen(true)?)
 }
 
 /// The text with one letter changed at every fifth place, without its end, and with a line more.

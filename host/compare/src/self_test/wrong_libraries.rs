@@ -1,0 +1,189 @@
+//! Libraries that are wrong in one way each. The linked one makes the call, and what it returned or left is then spoiled:
+//! a count, a refusal, an element of each buffer or beside it, work left dirty, another part of the table.
+
+use super::{must_differ, printed_table};
+use crate::agree;
+use crate::calls::{self, round_trips, Table};
+use crate::expected;
+use crate::generate::Cells;
+use crate::library::{proved, Buffers, Call, Library, Returned};
+use crate::record::{places_of, record, RECORD};
+use crate::rng::Rng;
+use crate::rules::LEAST_WORK;
+use crate::service::{Buffer, Service};
+use haplotypes::Outcome::{Accepted, Refused};
+use std::ops::Range;
+
+struct Wrong {
+    service: Service,
+    /// what the comparison must say of it
+    said: String,
+    spoil: Spoil,
+}
+
+/// Spoils what a call returned or left. It has what the buffers held before.
+type Spoil = Box<dyn Fn(&mut Call, &mut Returned, Buffers) + Sync>;
+
+/// The number of wrong libraries, each noticed by the comparison that the linked one passes.
+pub fn noticed() -> Result<usize, String> {
+    compared(&proved)?;
+    let mut all = wrong_outcomes();
+    all.extend(Service::ALL.into_iter().flat_map(wrong_elements));
+    all.extend(dirty_works());
+    all.extend(wrong_parts());
+    all.iter().try_for_each(must_be_noticed)?;
+    Ok(all.len() + wrong_round_trips()?)
+}
+
+/// The calls of a run about two tables, one error-free and one not.
+fn compared(library: Library) -> Result<(), String> {
+    let pair = [record(1, 0, &[1]), record(2, 0, &[2])].concat();
+    for bytes in [&pair, &printed_table()] {
+        let outcome = &expected::outcome(bytes)?;
+        calls::all(library, &Table { bytes, outcome }, &printed_cells(), &mut Rng::new(1))?;
+    }
+    Ok(())
+}
+
+fn printed_cells() -> Cells {
+    Cells { n: 3, cells: vec![1, 1, 0, 2, 1, 1, 0, 2, 2], tags: vec![10, 11, 12] }
+}
+
+fn must_be_noticed(wrong: &Wrong) -> Result<(), String> {
+    let name = wrong.service.name();
+    match compared(&wrong.library()) {
+        Ok(()) => Err(format!("self-test: a wrong {name} passed: {:?}", wrong.said)),
+        Err(difference) if difference.starts_with(name) && difference.contains(&wrong.said) => Ok(()),
+        Err(difference) => Err(format!("self-test: a wrong {name} ({:?}) is reported as {difference}", wrong.said)),
+    }
+}
+
+impl Wrong {
+    fn new(service: Service, spoil: impl Fn(&mut Call, &mut Returned, Buffers) + Sync + 'static) -> Wrong {
+        Wrong { service, said: ": returned\n".to_string(), spoil: Box::new(spoil) }
+    }
+
+    fn in_buffer(self, buffer: Buffer) -> Wrong {
+        Wrong { said: format!(": in its {}, ", buffer.name()), ..self }
+    }
+
+    fn library(&self) -> impl Fn(&mut Call) -> Returned + Sync + '_ {
+        |call| {
+            let before = call.lent.clone();
+            let mut returned = proved(call);
+            if call.service == self.service {
+                (self.spoil)(call, &mut returned, before);
+            }
+            returned
+        }
+    }
+}
+
+/// Another count, number or place; a refusal of what is accepted, and an acceptance of what is refused.
+fn wrong_outcomes() -> Vec<Wrong> {
+    type Other = fn(haplotypes::Outcome) -> haplotypes::Outcome;
+    let others: [Other; 5] = [
+        |outcome| if let Accepted(count) = outcome { Accepted(count + 1) } else { outcome },
+        |outcome| if let Refused(number, place) = outcome { Refused(number + 1, place) } else { outcome },
+        |outcome| if let Refused(number, place) = outcome { Refused(number, place + 1) } else { outcome },
+        |outcome| if let Accepted(_) = outcome { Refused(1, 0) } else { outcome },
+        |outcome| if let Refused(..) = outcome { Accepted(0) } else { outcome },
+    ];
+    let spoiled = |service, other: Other| {
+        Wrong::new(service, move |_, returned, _| {
+            if let Returned::Outcome(outcome) = returned {
+                *outcome = other(*outcome);
+            }
+        })
+    };
+    let services = Service::ALL.into_iter().filter(|&service| service != Service::Find);
+    services.flat_map(|service| others.map(|other| spoiled(service, other))).collect()
+}
+
+/// Where to write in a room of some length with this part lent.
+type Place = fn(Range<usize>, usize) -> usize;
+const FIRST: Place = |lent, _| lent.start;
+const LAST: Place = |lent, _| lent.end - 1;
+/// The guards beside the buffer and farthest from it.
+const GUARDS: [Place; 4] = [|lent, _| lent.start - 1, |lent, _| lent.end, |_, _| 0, |_, length| length - 1];
+
+/// One element of each buffer, or beside it, changed on each acceptance, or on each refusal. Find has no refusal.
+fn wrong_elements(service: Service) -> Vec<Wrong> {
+    let outcomes: &[bool] = if service == Service::Find { &[false] } else { &[false, true] };
+    let mut all = Vec::new();
+    for buffer in service.buffers() {
+        for &refused in outcomes {
+            all.extend([FIRST, LAST].map(|place| flipping(service, buffer, place, refused)));
+            all.extend(GUARDS.map(|place| flipping(service, buffer, place, refused)));
+        }
+    }
+    all
+}
+
+/// Empty buffers are left alone, so that it is the element at the place that is noticed.
+fn flipping(service: Service, buffer: Buffer, place: Place, refused: bool) -> Wrong {
+    let wrong = Wrong::new(service, move |call, returned, _| {
+        let room = call.lent.room_mut(buffer);
+        if is_refusal(returned) == refused && !room.lent_range().is_empty() {
+            room.flip(place(room.lent_range(), room.length()));
+        }
+    });
+    wrong.in_buffer(buffer)
+}
+
+fn is_refusal(returned: &Returned) -> bool {
+    matches!(returned, Returned::Outcome(Refused(..)))
+}
+
+/// Work left as it was, whole or past the least, on each acceptance.
+fn dirty_works() -> Vec<Wrong> {
+    let dirty = |service, from: usize| {
+        Wrong::new(service, move |call, returned, before| {
+            if !is_refusal(returned) {
+                call.lent.work.lent_mut()[from..].copy_from_slice(&before.work.lent()[from..]);
+            }
+        })
+        .in_buffer(Buffer::Work)
+    };
+    let borrowing = Service::ALL.into_iter().filter(|service| service.borrows_work());
+    borrowing.flat_map(|service| [dirty(service, 0), dirty(service, LEAST_WORK)]).collect()
+}
+
+/// Find with the last record in the place of the first, with nothing found, with the empty part at the table's start,
+/// and with parts beside the right one.
+fn wrong_parts() -> Vec<Wrong> {
+    type Other = fn(u32, &[u8], Range<usize>) -> Range<usize>;
+    let others: [Other; 6] = [
+        |wanted, table, part| {
+            let last = places_of(wanted, table).last();
+            last.map_or(part, |place| RECORD * place..RECORD * (place + 1))
+        },
+        |_, table, _| table.len()..table.len(),
+        |_, _, part| if part.is_empty() { 0..0 } else { part },
+        |_, _, part| part.start + RECORD..part.end + RECORD,
+        |_, _, part| part.start + 1..part.end + 1,
+        |_, _, part| part.start..part.end.saturating_sub(1),
+    ];
+    let spoiled = |other: Other| {
+        Wrong::new(Service::Find, move |call, returned, _| {
+            if let Returned::Part(part) = returned {
+                *part = other(call.number as u32, call.lent.table.lent(), part.clone());
+            }
+        })
+    };
+    others.map(spoiled).into()
+}
+
+/// A cell, a tag and a byte of a record that change on the way there or back, both ways round.
+fn wrong_round_trips() -> Result<usize, String> {
+    let both = |library: Library| {
+        let rng = &mut Rng::new(1);
+        [round_trips::of_table(library, &printed_table(), rng), round_trips::of_cells(library, &printed_cells(), rng)]
+    };
+    agree("round trips", &[Ok(true), Ok(true)], &both(&proved))?;
+    let places = [(Service::Unpack, Buffer::Cells), (Service::Unpack, Buffer::Tags), (Service::Pack, Buffer::Table)];
+    for wrong in places.map(|(service, buffer)| flipping(service, buffer, FIRST, false)) {
+        both(&wrong.library()).into_iter().try_for_each(|compared| must_differ(compared.map(drop)))?;
+    }
+    Ok(2 * places.len())
+}
