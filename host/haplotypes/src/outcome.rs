@@ -38,7 +38,8 @@ pub(crate) fn read(base: u64, number: u64) -> Outcome {
     if number < base {
         Outcome::Accepted(number as usize)
     } else {
-        Outcome::Refused((number / base) as u8, (number % base) as usize)
+        let refusal = u8::try_from(number / base).expect("the refusals' numbers are below 256");
+        Outcome::Refused(refusal, (number % base) as usize)
     }
 }
 
