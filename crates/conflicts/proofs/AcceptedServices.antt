@@ -8,12 +8,12 @@ use lib.ListN.{length}
 use Rattle.records.specs.Table.{fragments}
 use Rattle.records.specs.Outcome.{Verdict, accepted}
 use Rattle.records.specs.Rules.{Rule, decide, sizeRules, tableRules, tableVerdict}
-use Rattle.records.proofs.BelowLaws.{eq-==, T-isnt-isnt, le-isnt}
+use Rattle.below.proofs.BelowLaws.{eq-==, T-isnt-isnt, le-isnt}
 use Rattle.records.proofs.RuleLaws.{decide-none, stage-kept, stage-last, accepted-count, unbroken, all-unbroken}
 use Rattle.records.proofs.KeptLaws.{rule-unbroken}
 use Rattle.conflicts.specs.Grid.{Grid, gridOf}
 use Rattle.conflicts.specs.Answer.{answerSize}
-use Rattle.conflicts.specs.Services.{workRules, lengthRule, depthRules, checkRules, removalRules, correctionRules, checkLeaves, snpRemovalLeaves, fragmentRemovalLeaves, correctionsLeaves}
+use Rattle.conflicts.specs.Services.{workRules, lengthRule, depthRules, checkRules, removalRules, correctionRules, checkLeaves, snpRemovalLeaves, fragmentRemovalLeaves, correctionsLeaves, lentStages, correctionStages}
 use Rattle.conflicts.specs.Served.{Accepts, NoneDeep, TooDeep, RefusesDeep, Served}
 use Rattle.conflicts.proofs.DeepLaws.{deep-or-none, deep-refused, deep-kept}
 
@@ -64,7 +64,7 @@ module _ (n m : ℕ) (table : List ℕ) (e : tableVerdict n table ≡ accepted m
     module _ (work : List ℕ) (enough : 32768 ≤ length work) where
       -- S's and F's
       pub removal-kept : (v : Verdict) → decide (removalRules n table answer work) v ≡ v
-      unfolding removalRules
+      unfolding removalRules lentStages
       removal-kept v =
           stage-kept _ _ 0 v 0 (sizes-pass _)
           ∙ stage-kept _ _ 0 v 0 (work-kept work _ enough)
@@ -74,11 +74,12 @@ module _ (n m : ℕ) (table : List ℕ) (e : tableVerdict n table ≡ accepted m
 
       -- C's, up to 12
       pub correction-kept : (output : List ℕ) → length output ≡ 32 * m → (v : Verdict) → decide (correctionRules n table answer output work) v ≡ decide (depthRules (gridOf n table)) v
-      unfolding correctionRules
+      unfolding correctionRules correctionStages lentStages
       correction-kept output whole v =
           stage-kept _ _ 0 v 0 (sizes-pass _)
           ∙ stage-kept _ _ 0 v 0 (work-kept work _ enough)
-          ∙ stage-kept _ _ 0 v 0 (answer-kept _ _ ∙ length-kept output _ _ [] (whole ∙ ap (λ (k : ℕ). 32 * k) (sym count-is)) ∙ decide-none _)
+          ∙ stage-kept _ _ 0 v 0 (answer-kept [] _ ∙ decide-none _)
+          ∙ stage-kept _ _ 0 v 0 (length-kept output _ _ [] (whole ∙ ap (λ (k : ℕ). 32 * k) (sym count-is)) ∙ decide-none _)
           ∙ stage-kept _ _ 0 v 0 (records-pass _)
           ∙ stage-last _ v
 

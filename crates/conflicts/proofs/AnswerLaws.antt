@@ -7,9 +7,9 @@ use native.Mathlib.Nat.{mul-le-mul-right}
 use native.Mathlib.Omega.{arith}
 use lib.ListN.{length, getD, length-append, List·getD-append}
 use lib.Seq.{getD-append-add}
-use Rattle.records.specs.Below.{tab}
-use Rattle.records.proofs.BelowLaws.{length-tab, getD-tab}
-use Rattle.records.proofs.RowLaws.{length-flat, flat-at}
+use Rattle.below.specs.Below.{tab}
+use Rattle.below.proofs.BelowLaws.{length-tab, getD-tab}
+use Rattle.below.proofs.RowLaws.{length-flat, flat-at}
 use Rattle.conflicts.specs.Grid.{Grid}
 use Rattle.conflicts.specs.Haplotypes.{haplotype, haplotypes}
 use Rattle.conflicts.specs.Blocks.{block}

@@ -9,9 +9,9 @@ use native.Mathlib.Omega.{arith}
 use lib.ListN.{length, getD}
 use native.Mathlib.Nat.{not-suc-le-zero, le-refl, le-trans, le-of-lt}
 use lib.Dec.{T}
-use Rattle.records.specs.Below.{_≤?_, _or_, isnt, _==_, _<?_, sumBelow, countBelow}
-use Rattle.records.proofs.MemberLaws.{concat-of, concat-at}
-use Rattle.records.proofs.BelowLaws.{or-left, or-right, or-cases, if-ind, isnt-≤?, ≤?-le}
+use Rattle.below.specs.Below.{_≤?_, _or_, isnt, _==_, _<?_, sumBelow, countBelow}
+use Rattle.below.proofs.MemberLaws.{concat-of, concat-at}
+use Rattle.below.proofs.BelowLaws.{or-left, or-right, or-cases, if-ind, isnt-≤?, ≤?-le}
 use Rattle.conflicts.specs.Choice.{choices, passing, some, first, leastOf, firstLeast, zeros}
 
 -- two keep lists that remove as many: the first is taken

@@ -9,20 +9,20 @@ use native.Mathlib.Omega.{arith}
 use lib.Dec.{T}
 use lib.ListN.{length, getD, take, drop, replicate, length-append, length-replicate, List·getD-append, drop-of-length-le}
 use lib.Seq.{getD-take, getD-drop, getD-append-add, length-take-le}
-use Rattle.records.specs.Below.{if_then_else_, _<?_, _≤?_, _and_, isnt, sumBelow, tab, concat}
+use Rattle.below.specs.Below.{if_then_else_, _<?_, _≤?_, _and_, isnt, sumBelow, tab, concat}
 use Rattle.records.specs.Record.{littleEndian, startOf, spanOf, isCall, cellOf, codeAt}
 use Rattle.records.specs.Table.{fragments, recordAt}
 use Rattle.records.specs.Writing.{cellBytes}
-use Rattle.records.proofs.BelowLaws.{both, decided, isnt-isnt, not-both, if-ind, if-true, if-false, ==-eq, <?-lt, lt-<?, sum-ext}
+use Rattle.below.proofs.BelowLaws.{both, decided, isnt-isnt, not-both, if-ind, if-true, if-false, ==-eq, <?-lt, lt-<?, sum-ext, le-isnt}
 use Rattle.records.proofs.FieldLaws.{start-bytes, codeAt-in, codeAt-out}
 use Rattle.records.proofs.ByteLaws.{cell-past, cell-small, length-cellBytes, cellByte-at, code-written}
 use Rattle.records.proofs.ExtentLaws.{call-range, no-call}
-use Rattle.records.proofs.RowLaws.{tab-ext, length-laid-out, row-laid}
+use Rattle.below.proofs.RowLaws.{tab-ext, length-laid-out, row-laid}
 use Rattle.records.proofs.TableLaws.{fragments-of, length-whole, recordAt-row, length-recordAt, recordAt-bytes}
 use Rattle.conflicts.specs.Grid.{Grid, gridOf, withCells}
 use Rattle.conflicts.specs.Corrections.{leastCostSides, correctedCell, corrected, differs}
 use Rattle.conflicts.specs.Answer.{correctedGrid, rewrittenCode, rewritten, correctedTable}
-use Rattle.conflicts.specs.Minimality.{differsAt, OthersKept}
+use Rattle.conflicts.specs.Minimality.{OthersKept}
 use Rattle.conflicts.proofs.CorrectionLaws.{letter-call}
 
 -- ---- rows that have one length below m
@@ -203,13 +203,6 @@ module _ (n : ℕ) (table : List ℕ) where
       ap (λ (r : List ℕ). codeAt r c) (record-corrected i h)
       ∙ rewritten-code (recordAt table i) (row i) (length-recordAt table i h) (row-small i) (row-hole i) c
 
-  -- a cell of the span that does not differ stands for a column that does not
-  column-kept : (i k : ℕ) → k < spanOf (recordAt table i) → startOf (recordAt table i) + spanOf (recordAt table i) ≤ n → T (isnt (differsAt n table (correctedTable n table) i k))
-      → codeAt (recordAt table i) (startOf (recordAt table i) + k) ≡ codeAt (recordAt (correctedTable n table) i) (startOf (recordAt table i) + k)
-  unfolding differsAt differs gridOf
-  column-kept i k hk fits t =
-      ==-eq _ _ (isnt-isnt _ (not-both _ _ t (both _ _ (lt-<? k (spanOf (recordAt table i)) hk) (lt-<? (startOf (recordAt table i) + k) n (omega arith)))))
-
   module _ (whole : length table % 32 ≡ 0) where
     -- past the last record there is none
     nothing-past : (t : List ℕ) → length t ≡ fragments table * 32 → (i c : ℕ) → fragments table ≤ i → codeAt (recordAt t i) c ≡ 0
@@ -228,9 +221,8 @@ module _ (n : ℕ) (table : List ℕ) where
         ])
 
     -- and nothing else of it has changed
-    pub others-kept : ((j : ℕ) → j < length table → getD table j 0 < 256) → ((i : ℕ) → i < fragments table → startOf (recordAt table i) + spanOf (recordAt table i) ≤ n)
-        → OthersKept n table (correctedTable n table)
-    others-kept bytes fits = record {
+    pub others-kept : ((j : ℕ) → j < length table → getD table j 0 < 256) → OthersKept table (correctedTable n table)
+    others-kept bytes = record {
       size = length-corrected ∙ sym (length-whole table whole);
       bytes = λ j h.
           let i = j / 32 in
@@ -239,16 +231,7 @@ module _ (n : ℕ) (table : List ℕ) where
           rw (record-byte (correctedTable n table) j, record-corrected i hi)
           (rewritten-byte (recordAt table i) (row i) (length-recordAt table i hi) (row-small i) (recordAt-bytes table bytes i hi) b (omega arith));
       headers = λ i b h l. ap (λ (r : List ℕ). getD r b 0) (record-corrected i h) ∙ rewritten-header (recordAt table i) (row i) (length-recordAt table i h) b l;
-      cells = λ i k h l t. ap (λ (r : List ℕ). cellOf r k) (record-corrected i h) ∙ cell-kept i k h l t (decided (k <? spanOf (recordAt table i)));
+      later = λ i k h s l.
+          ap (λ (r : List ℕ). cellOf r k) (record-corrected i h)
+          ∙ later-cell (recordAt table i) (row i) (length-recordAt table i h) (row-small i) k l (le-isnt k (spanOf (recordAt table i)) s);
     }
-      where
-        cell-kept : (i k : ℕ) → i < fragments table → k < 96 → T (isnt (differsAt n table (correctedTable n table) i k))
-            → T (k <? spanOf (recordAt table i)) ⊎ T (isnt (k <? spanOf (recordAt table i))) → cellOf (rewritten (recordAt table i) (row i)) k ≡ cellOf (recordAt table i) k
-        cell-kept i k h l t (inr s) = later-cell (recordAt table i) (row i) (length-recordAt table i h) (row-small i) k l s
-        cell-kept i k h l t (inl s) =
-            let hk = <?-lt k (spanOf (recordAt table i)) s in
-            span-cell (recordAt table i) (row i) (length-recordAt table i h) (row-small i) k l hk
-            ∙ sym (code-corrected i h (startOf (recordAt table i) + k))
-            ∙ sym (column-kept i k hk (fits i h) t)
-            ∙ codeAt-in (recordAt table i) (startOf (recordAt table i) + k) (omega arith) (omega arith)
-            ∙ ap (cellOf (recordAt table i)) (omega arith)

@@ -10,12 +10,12 @@ use native.Mathlib.Omega.{arith}
 use lib.Dec.{T}
 use lib.ListN.{getD}
 use borrow.Author.Tests.{eq-eqb, ne-eqb}
-use Rattle.records.specs.Below.{bit, if_then_else_, _==_, _<?_, _and_, _or_, isnt, anyBelow, sumBelow, countBelow}
+use Rattle.below.specs.Below.{nth, bit, if_then_else_, _==_, _<?_, _and_, _or_, isnt, anyBelow, sumBelow, countBelow}
 use Rattle.records.specs.Record.{isCall}
-use Rattle.records.proofs.BelowLaws.{both, left-of, right-of, or-left, or-right, or-cases, decided, T-isnt, isnt-isnt, same-test, if-ind, if-true, if-false, ==-eq, ==-refl, eq-==, isnt-==, ne-isnt, <?-lt, isnt-<?, anyBelow-at, anyBelow-of, sum-le, sum-ext, sum-swap, count-ext, count-le}
+use Rattle.below.proofs.BelowLaws.{both, left-of, right-of, or-left, or-right, or-cases, decided, T-isnt, isnt-isnt, same-test, if-ind, if-true, if-false, ==-eq, ==-refl, eq-==, isnt-==, ne-isnt, <?-lt, isnt-<?, anyBelow-at, anyBelow-of, sum-le, sum-ext, sum-swap, count-ext, count-le}
 use Rattle.records.proofs.ExtentLaws.{call-range, call-of}
 use Rattle.conflicts.specs.Grid.{Grid, withCells, callsConflict, conflictOn}
-use Rattle.conflicts.specs.Corrections.{correctionCost, sideCount, sidePrice, majorityLetter, cost, sideLetter, correctedCell, corrected, differs, cellCount, changedCells, turned}
+use Rattle.conflicts.specs.Corrections.{correctionCost, sideCount, sidePrice, majorityLetter, columnCost, cost, sideLetter, correctedCell, corrected, differs, cellCount, changedCells, turned}
 use Rattle.conflicts.proofs.GridLaws.{conflict-self}
 
 -- ---- codes
@@ -119,7 +119,7 @@ unfoldable pub setCount : Grid → List ℕ → (ℕ → ℕ → Bool) → ℕ �
 setCount g sides set s c = countBelow (g .m) (λ i. getD sides i 0 == s and set i c)
 
 module _ (g : Grid) (sides : List ℕ) where
-  side-count : (s c letter : ℕ) → sideCount g sides s c letter ≡ countBelow (g .m) (λ i. getD sides i 0 == s and g .cell i c == letter)
+  side-count : (s c letter : ℕ) → sideCount g (nth sides) s c letter ≡ countBelow (g .m) (λ i. getD sides i 0 == s and g .cell i c == letter)
   unfolding sideCount correctionCost countBelow
   side-count s c letter = sum-ext (g .m) _ _ λ i hi. if-bit (getD sides i 0 == s and g .cell i c == letter)
 
@@ -135,7 +135,7 @@ module _ (g : Grid) (sides : List ℕ) where
 
   module _ (set : ℕ → ℕ → Bool) (s c : ℕ) where
     -- a letter that no fragment of the side has after the set is turned: each that had it is in the set
-    absent : (letter : ℕ) → ((i : ℕ) → i < g .m → getD sides i 0 ≡ s → turned g set .cell i c ≡ letter → ⊥) → sideCount g sides s c letter ≤ setCount g sides set s c
+    absent : (letter : ℕ) → ((i : ℕ) → i < g .m → getD sides i 0 ≡ s → turned g set .cell i c ≡ letter → ⊥) → sideCount g (nth sides) s c letter ≤ setCount g sides set s c
     unfolding turned withCells setCount
     absent letter away =
         rw (side-count s c letter)
@@ -149,14 +149,14 @@ module _ (g : Grid) (sides : List ℕ) where
 
     -- where the set, turned, leaves no conflict inside the side at the column, it has as many cells there as the price
     pub price-bound : ((i j : ℕ) → i < g .m → j < g .m → getD sides i 0 ≡ s → getD sides j 0 ≡ s → T (conflictOn (turned g set) c i j) → ⊥)
-        → sidePrice (sideCount g sides s c 1) (sideCount g sides s c 2) ≤ setCount g sides set s c
+        → sidePrice (sideCount g (nth sides) s c 1) (sideCount g (nth sides) s c 2) ≤ setCount g sides set s c
     unfolding sidePrice conflictOn callsConflict
     price-bound apart = go (decided (anyBelow (g .m) isA))
       where
         isA : ℕ → Bool
         isA i = getD sides i 0 == s and turned g set .cell i c == 1
 
-        go : T (anyBelow (g .m) isA) ⊎ T (isnt (anyBelow (g .m) isA)) → sidePrice (sideCount g sides s c 1) (sideCount g sides s c 2) ≤ setCount g sides set s c
+        go : T (anyBelow (g .m) isA) ⊎ T (isnt (anyBelow (g .m) isA)) → sidePrice (sideCount g (nth sides) s c 1) (sideCount g (nth sides) s c 2) ≤ setCount g sides set s c
         go (inr away) =
             let n = absent 1 (λ i hi on a. T-isnt _ away (anyBelow-of (g .m) isA i hi (both _ _ (rw on (==-refl s)) (rw a (==-refl 1))))) in
             omega arith
@@ -169,11 +169,11 @@ module _ (g : Grid) (sides : List ℕ) where
   pub letter-call : (s c : ℕ) → T (isCall (sideLetter g sides s c))
   unfolding sideLetter majorityLetter isCall
   letter-call s c =
-      if-ind (λ x. T (x == 1 or x == 2)) (sideCount g sides s c 1 <? sideCount g sides s c 2)
+      if-ind (λ x. T (x == 1 or x == 2)) (sideCount g (nth sides) s c 1 <? sideCount g (nth sides) s c 2)
       (λ t. or-right (2 == 1) _ (==-refl 2)) (λ t. or-left _ (1 == 2) (==-refl 1))
 
   -- C's own changes on a side: the calls of the letter that it does not turn to
-  changed-count : (s c : ℕ) → setCount g sides (differs g (corrected g sides)) s c ≡ sideCount g sides s c (3 - sideLetter g sides s c)
+  changed-count : (s c : ℕ) → setCount g sides (differs g (corrected g sides)) s c ≡ sideCount g (nth sides) s c (3 - sideLetter g sides s c)
   unfolding setCount differs corrected withCells correctedCell
   changed-count s c =
       (count-ext (g .m) _ _ λ i hi. and-ext (getD sides i 0 == s) _ _ λ on.
@@ -181,17 +181,17 @@ module _ (g : Grid) (sides : List ℕ) where
       ∙ ap (λ (t : ℕ). g .cell i c == 3 - sideLetter g sides t c) (==-eq (getD sides i 0) s on))
       ∙ sym (side-count s c (3 - sideLetter g sides s c))
 
-  pub price-exact : (s c : ℕ) → setCount g sides (differs g (corrected g sides)) s c ≡ sidePrice (sideCount g sides s c 1) (sideCount g sides s c 2)
+  pub price-exact : (s c : ℕ) → setCount g sides (differs g (corrected g sides)) s c ≡ sidePrice (sideCount g (nth sides) s c 1) (sideCount g (nth sides) s c 2)
   unfolding sideLetter majorityLetter sidePrice
   price-exact s c =
       changed-count s c
-      ∙ if-ind (λ letter. sideCount g sides s c (3 - letter) ≡ min a b) (a <? b) (λ t. let h = <?-lt a b t in omega arith) (λ t. let h = isnt-<? a b t in omega arith)
+      ∙ if-ind (λ letter. sideCount g (nth sides) s c (3 - letter) ≡ min a b) (a <? b) (λ t. let h = <?-lt a b t in omega arith) (λ t. let h = isnt-<? a b t in omega arith)
     where
       a : ℕ
-      a = sideCount g sides s c 1
+      a = sideCount g (nth sides) s c 1
 
       b : ℕ
-      b = sideCount g sides s c 2
+      b = sideCount g (nth sides) s c 2
 
   -- ---- the whole matrix
 
@@ -200,14 +200,14 @@ module _ (g : Grid) (sides : List ℕ) where
     pub cost-bound : (set : ℕ → ℕ → Bool)
         → ((i j c : ℕ) → i < g .m → j < g .m → c < g .n → getD sides i 0 ≡ getD sides j 0 → T (conflictOn (turned g set) c i j) → ⊥)
         → cost k g sides ≤ cellCount g set
-    unfolding cost
+    unfolding cost columnCost
     cost-bound set apart =
         rw (cells-by-side k on set)
         (sum-le (g .n) _ _ λ c hc. sum-le k _ _ λ s hs. price-bound set (suc s) c λ i j hi hj a b. apart i j c hi hj hc (a ∙ sym b))
 
     -- C's own changes are exactly as many
     pub cost-exact : changedCells g (corrected g sides) ≡ cost k g sides
-    unfolding changedCells cost
+    unfolding changedCells cost columnCost
     cost-exact =
         cells-by-side k on (differs g (corrected g sides))
         ∙ sum-ext (g .n) _ _ λ c hc. sum-ext k _ _ λ s hs. price-exact (suc s) c

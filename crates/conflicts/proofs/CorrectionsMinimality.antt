@@ -7,12 +7,12 @@ use Prim.Native.Nat.{ℕ, _+_, _%_, _≤_, _<_}
 use native.Mathlib.Nat.{le-trans, le-of-eq}
 use lib.Dec.{T, lit≤}
 use lib.ListN.{length, getD, replicate, getD-replicate}
-use Rattle.records.specs.Below.{isnt, tab}
+use Rattle.below.specs.Below.{isnt, tab}
 use Rattle.records.specs.Record.{startOf, spanOf, isCall}
 use Rattle.records.specs.Table.{fragments, recordAt}
 use Rattle.records.specs.Outcome.{Verdict, accepted}
-use Rattle.records.proofs.BelowLaws.{if-true}
-use Rattle.records.proofs.RowLaws.{tab-ext, tab-again}
+use Rattle.below.proofs.BelowLaws.{if-true}
+use Rattle.below.proofs.RowLaws.{tab-ext, tab-again}
 use Rattle.conflicts.specs.Choice.{zeros, keepAll}
 use Rattle.conflicts.specs.Grid.{Grid, gridOf, withCells}
 use Rattle.conflicts.specs.Removal.{snpKeepMarks, fragmentKeepMarks}
@@ -20,7 +20,7 @@ use Rattle.conflicts.specs.Corrections.{cost, leastCostSides, sideLetter
 use Rattle.conflicts.specs.Answer.{correctedGrid, correctionAnswer, correctedTable, keepMarkIn, sideIn, answerSize}
 use Rattle.conflicts.specs.Minimality.{CallsWork, Fewest, FirstOf, SidesCost, Corrected}
 use Rattle.conflicts.specs.Phased.{Phased}
-use Rattle.conflicts.specs.Services.{removalRules, correctionRules, written, workAfter, snpRemovalLeaves, fragmentRemovalLeaves, correctionsLeaves}
+use Rattle.conflicts.specs.Services.{lentStages, removalRules, correctionStages, correctionRules, written, workAfter, snpRemovalLeaves, fragmentRemovalLeaves, correctionsLeaves}
 use Rattle.conflicts.proofs.SideLaws.{all-length, lawful-of, alike-same}
 use Rattle.conflicts.proofs.AnswerLaws.{answer-length, keepMark-at, side-at}
 use Rattle.conflicts.proofs.PhaseLaws.{phased}
@@ -28,10 +28,9 @@ use Rattle.conflicts.proofs.Minimality.{snpRemoval, fragmentRemoval}
 use Rattle.conflicts.proofs.CorrectionLaws.{cost-exact, corrected-apart, corrected-turned}
 use Rattle.conflicts.proofs.LeastCorrections.{least-length, least-on, least-cost, least-first, corrections-fewest, touchedColumn, touchedFragment, columns-touched, columns-count, fragments-touched, fragments-count}
 use Rattle.conflicts.proofs.CorrectedTableLaws.{corrected-hole, grid-corrected, others-kept}
-use Rattle.records.specs.Rules.{sizeRules, tableRules}
+use Rattle.records.specs.Rules.{sizeRules}
 use Rattle.records.proofs.RuleLaws.{accepted-stage, accepted-count}
-use Rattle.records.proofs.PackLaws.{sound-fits}
-use Rattle.records.proofs.AcceptedLaws.{whole-records, accepted-sound}
+use Rattle.records.proofs.AcceptedLaws.{whole-records}
 
 -- ---- C's answer
 
@@ -119,16 +118,16 @@ module _ (n : ℕ) (table : List ℕ) (whole : length table % 32 ≡ 0) where
   table-letters i c h t =
       of-table (λ h. h .cell i c ≡ sideLetter g (tab (g .m) (sideIn (g .n) (correctionAnswer g))) (sideIn (g .n) (correctionAnswer g) i) c) (correction-letter g i c h t)
 
-  pub corrected-table : ((j : ℕ) → j < length table → getD table j 0 < 256) → ((i : ℕ) → i < fragments table → startOf (recordAt table i) + spanOf (recordAt table i) ≤ n)
+  pub corrected-table : ((j : ℕ) → j < length table → getD table j 0 < 256)
       → Corrected n table (correctionAnswer (gridOf n table)) (correctedTable n table) (cost 2 (gridOf n table) (leastCostSides 2 (gridOf n table)))
   unfolding gridOf
-  corrected-table bytes fits = record {
+  corrected-table bytes = record {
     filled = correction-length g;
     marks = correction-mark g;
     fewest = table-fewest;
     turns = λ i c hi hc. table-turns i c;
     holes = λ i c hi hc t. table-holes i c t;
-    others = others-kept n table whole bytes fits;
+    others = others-kept n table whole bytes;
     sides = correction-sides g;
     cheapest = λ side other w. subst (λ (x : ℕ). cost 2 g (leastCostSides 2 g) ≤ x) (w .costs) (least-cost 2 g (lit≤ tt) side (w .on));
     letters = λ i c hi hc t. table-letters i c hi t;
@@ -139,13 +138,8 @@ module _ (n : ℕ) (table : List ℕ) (whole : length table % 32 ≡ 0) where
 
 module _ (n : ℕ) (table answer output work : List ℕ) (k : ℕ) (e : correctionsLeaves n table answer output work .outcome ≡ accepted k) where
   whole-table : length table % 32 ≡ 0
-  unfolding correctionsLeaves correctionRules
+  unfolding correctionsLeaves correctionRules correctionStages lentStages
   whole-table = whole-records n table _ _ (accepted-stage _ _ k e (sizeRules n table) (List·Memᴰ·head refl))
-
-  fits-columns : (i : ℕ) → i < fragments table → startOf (recordAt table i) + spanOf (recordAt table i) ≤ n
-  unfolding correctionsLeaves correctionRules
-  fits-columns i h =
-      sound-fits n (recordAt table i) (accepted-sound n table _ _ (accepted-stage _ _ k e (tableRules n table) (List·Memᴰ·tail (List·Memᴰ·tail (List·Memᴰ·tail (List·Memᴰ·head refl))))) i h)
 
   -- C's number is the cost of its side list
   pub corrections-number : cost 2 (gridOf n table) (leastCostSides 2 (gridOf n table)) ≡ k
@@ -159,7 +153,7 @@ module _ (n : ℕ) (table answer output work : List ℕ) (k : ℕ) (e : correcti
   unfolding correctionsLeaves
   corrections-accepted bytes = (
     subst (λ (v : Verdict). Corrected n table (written v (correctionAnswer (gridOf n table)) answer) (written v (correctedTable n table) output) k) (sym e)
-        (subst (λ (j : ℕ). Corrected n table (correctionAnswer (gridOf n table)) (correctedTable n table) j) corrections-number (corrected-table n table whole-table bytes fits-columns)),
+        (subst (λ (j : ℕ). Corrected n table (correctionAnswer (gridOf n table)) (correctedTable n table) j) corrections-number (corrected-table n table whole-table bytes)),
     ap (λ (v : Verdict). workAfter v work) e,
   )
 

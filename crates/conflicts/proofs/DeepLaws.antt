@@ -7,12 +7,12 @@ use mathlib.Core.List.{_∷_}
 use Prim.Native.Nat.{ℕ, zero, suc, _+_, _≤_, _<_}
 use native.Mathlib.Decide.{decLe}
 use native.Mathlib.Omega.{arith}
-use Rattle.records.specs.Below.{firstBelow, tab, tabFrom, _<?_}
+use Rattle.below.specs.Below.{firstBelow, tab, tabFrom, _<?_}
 use Rattle.records.specs.Outcome.{Verdict, refused}
 use Rattle.records.specs.Rules.{Rule, decide}
-use Rattle.records.proofs.BelowLaws.{isnt-T, <?-lt, isnt-<?, firstBelow-at, firstBelow-least}
+use Rattle.below.proofs.BelowLaws.{isnt-T, <?-lt, isnt-<?, firstBelow-at, firstBelow-least}
 use Rattle.records.proofs.RuleLaws.{rule-broken, rule-kept, decide-none}
-use Rattle.records.proofs.SearchLaws.{<?-true, <?-false}
+use Rattle.below.proofs.SearchLaws.{<?-true, <?-false}
 use Rattle.conflicts.specs.Grid.{Grid, depth}
 use Rattle.conflicts.specs.Services.{depthRules}
 use Rattle.conflicts.specs.Served.{NoneDeep, TooDeep}

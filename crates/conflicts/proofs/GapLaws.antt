@@ -5,10 +5,10 @@ use mathlib.Core.Bool.{Bool}
 use mathlib.Core.List.{List}
 use Prim.Native.Nat.{ℕ, _<_}
 use lib.Dec.{T}
-use Rattle.records.specs.Below.{isnt}
+use Rattle.below.specs.Below.{isnt}
 use Rattle.records.specs.Table.{fragments, recordAt}
 use Rattle.records.specs.Rules.{gapped}
-use Rattle.records.proofs.BelowLaws.{allBelow-of}
+use Rattle.below.proofs.BelowLaws.{allBelow-of}
 use Rattle.records.proofs.PackLaws.{Sound}
 use Rattle.records.proofs.SoundLaws.{sound-gapped}
 use Rattle.conflicts.specs.Grid.{gridOf, gapless}

@@ -8,9 +8,9 @@ use Prim.Native.Nat.{ℕ, _<_}
 use native.Mathlib.Omega.{arith}
 use lib.Dec.{T}
 use lib.ListN.{length, getD}
-use Rattle.records.specs.Below.{_==_, _and_, _or_, anyBelow}
+use Rattle.below.specs.Below.{_==_, _and_, _or_, anyBelow}
 use Rattle.records.specs.Record.{isCall}
-use Rattle.records.proofs.BelowLaws.{both, left-of, right-of, or-left, or-right, or-cases, ==-eq, anyBelow-at, anyBelow-of, any-ext, isnt-T, T-isnt}
+use Rattle.below.proofs.BelowLaws.{both, left-of, right-of, or-left, or-right, or-cases, ==-eq, anyBelow-at, anyBelow-of, any-ext, isnt-T, T-isnt}
 use Rattle.conflicts.specs.Grid.{Grid, callsConflict, conflictOn, conflict, agree, conflictOnKept, rowsConflict}
 use Rattle.conflicts.specs.Choice.{marked, keepAll}
 use Rattle.conflicts.specs.Minimality.{everything, TwoClasses, AgreeingClasses}

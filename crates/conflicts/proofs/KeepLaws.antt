@@ -10,8 +10,8 @@ use native.Mathlib.Omega.{arith}
 use lib.Dec.{T, lit≤}
 use lib.ListN.{length, getD, replicate, length-replicate, getD-replicate}
 use borrow.Author.Tests.{ne-eqb, lt-ltb}
-use Rattle.records.specs.Below.{bit, countBelow, tab, _==_, _<?_, isnt}
-use Rattle.records.proofs.BelowLaws.{count-ext, length-tab, getD-tab}
+use Rattle.below.specs.Below.{bit, countBelow, tab, _==_, _<?_, isnt}
+use Rattle.below.proofs.BelowLaws.{count-ext, length-tab, getD-tab}
 use Rattle.conflicts.specs.Choice.{choices, passing, firstLeast, marked, zeros, keepLists}
 use Rattle.conflicts.specs.Minimality.{everything, Earlier, Alike, Fewest, FirstSet}
 use Rattle.conflicts.proofs.ChoiceLaws.{every-cons, passing-of, passing-at, firstLeast-is, firstLeast-in, choices-of, choices-at, picks-of, picks-at, picks-length}

@@ -9,9 +9,9 @@ use native.Mathlib.Nat.{le-refl, le-trans, le-of-eq}
 use native.Mathlib.Omega.{arith}
 use lib.Dec.{T, lit≤}
 use lib.ListN.{length, getD}
-use Rattle.records.specs.Below.{bit, _or_, isnt, anyBelow, sumBelow, countBelow, tab}
-use Rattle.records.proofs.BelowLaws.{T-isnt, none-at, if-false, sum-le, sum-swap, length-tab, getD-tab}
-use Rattle.records.proofs.RowLaws.{tab-again}
+use Rattle.below.specs.Below.{bit, _or_, isnt, anyBelow, sumBelow, countBelow, tab}
+use Rattle.below.proofs.BelowLaws.{T-isnt, none-at, if-false, sum-le, sum-swap, length-tab, getD-tab}
+use Rattle.below.proofs.RowLaws.{tab-again}
 use Rattle.conflicts.specs.Choice.{marked, keepAll}
 use Rattle.conflicts.specs.Grid.{Grid, withCells, callsConflict, conflictOn}
 use Rattle.conflicts.specs.Sides.{sideLists}

@@ -20,4 +20,5 @@ pub mod CorrectionsMinimality
 pub mod TurningLaws
 pub mod DeepLaws
 pub mod AcceptedServices
+pub mod TrialCalls
 pub mod Trials

@@ -8,7 +8,7 @@ use native.Mathlib.Nat.{pos-of-ne-zero, not-suc-le-zero, sub-zero}
 use native.Mathlib.Omega.{arith}
 use lib.ListN.{take, drop, replicate}
 use borrow.Author.Tests.{lt-ltb}
-use Rattle.records.specs.Below.{_<?_, _and_}
+use Rattle.below.specs.Below.{_<?_, _and_}
 use Rattle.conflicts.specs.Choice.{keepAll}
 
 pub unmarked : (x : ℕ) (b : Bool) → x ≡ 0 → false ≡ (0 <? x and b)

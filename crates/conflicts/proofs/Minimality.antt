@@ -10,14 +10,14 @@ use native.Mathlib.Omega.{arith}
 use lib.Dec.{T, lt→ltb}
 use borrow.Author.Tests.{ne-eqb}
 use lib.ListN.{length, getD, getD-replicate}
-use Rattle.records.specs.Below.{_==_, _<?_, isnt}
+use Rattle.below.specs.Below.{_==_, _<?_, isnt}
 use Rattle.conflicts.specs.Choice.{marked, zeros, keepAll}
 use Rattle.conflicts.specs.Grid.{Grid}
 use Rattle.conflicts.specs.Sides.{errorFree, firstSides}
 use Rattle.conflicts.specs.Removal.{snpKeepMarks, fragmentKeepMarks}
 use Rattle.conflicts.specs.Answer.{answerSize, answer, checkAnswer, snpAnswer, fragmentAnswer, keepMarkIn, sideIn}
 use Rattle.conflicts.specs.Phased.{Phased}
-use Rattle.conflicts.specs.Minimality.{everything, TwoClasses, ColumnsWork, FragmentsWork, FirstSides, ErrorFree, SnpRemoval, FragmentRemoval}
+use Rattle.conflicts.specs.Minimality.{everything, TwoClasses, ColumnsWork, FragmentsWork, FirstSides, ErrorFreeAnswer, SnpRemoval, FragmentRemoval}
 use Rattle.conflicts.proofs.SideLaws.{kept-all, all-length, classes-less, errorFree-exactly, firstSides-in, firstSides-first, firstSides-same, firstSides-length}
 use Rattle.conflicts.proofs.KeepLaws.{isnt-zero, outside, outside-length, outside-marked, keeps-length, keeps-at, least-in, least-free, least-fewest, least-first}
 use Rattle.conflicts.proofs.AnswerLaws.{answer-length, keepMark-at, side-at}
@@ -79,7 +79,7 @@ module _ (g : Grid) where
   -- ---- check
 
   -- where the table is error-free, check's answer has the first lawful sides
-  pub checked : T (errorFree 2 g (keepAll (g .n)) (keepAll (g .m))) → ErrorFree g (checkAnswer g)
+  pub checked : T (errorFree 2 g (keepAll (g .n)) (keepAll (g .m))) → ErrorFreeAnswer g (checkAnswer g)
   unfolding checkAnswer
   checked free =
       let s = settled g (keepAll (g .n)) (keepAll (g .m)) (all-length (g .n)) (all-length (g .m)) free in

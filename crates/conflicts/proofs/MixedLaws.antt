@@ -6,8 +6,8 @@ use mathlib.Core.Bool.{Bool}
 use Prim.Native.Nat.{ℕ, _≤_, _<_}
 use native.Mathlib.Omega.{arith}
 use lib.Dec.{T}
-use Rattle.records.specs.Below.{_==_, _and_, isnt, anyBelow}
-use Rattle.records.proofs.BelowLaws.{both, left-of, right-of, or-cases, decided, isnt-T, T-isnt, anyBelow-of, count-lt, <?-lt}
+use Rattle.below.specs.Below.{_==_, _and_, isnt, anyBelow}
+use Rattle.below.proofs.BelowLaws.{both, left-of, right-of, or-cases, decided, isnt-T, T-isnt, anyBelow-of, count-lt, <?-lt}
 use Rattle.conflicts.specs.Grid.{Grid, callsConflict, conflictOn, mixed}
 use Rattle.conflicts.specs.Answer.{snpAnswer, keepMarkIn}
 use Rattle.conflicts.specs.Minimality.{ColumnsWork}

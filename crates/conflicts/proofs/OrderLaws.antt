@@ -10,12 +10,12 @@ use native.Mathlib.Decide.{ℕ-discrete}
 use native.Mathlib.Omega.{arith}
 use lib.Dec.{T, lit<}
 use lib.ListN.{length, getD}
-use Rattle.records.specs.Below.{bit, concat, tabFrom, _==_}
-use Rattle.records.proofs.BelowLaws.{if-ind, T-isnt}
+use Rattle.below.specs.Below.{bit, concat, tabFrom, _==_}
+use Rattle.below.proofs.BelowLaws.{if-ind, T-isnt}
 use Rattle.conflicts.specs.Choice.{choices, passing, first, firstLeast}
 use Rattle.conflicts.specs.Minimality.{Earlier}
 use Rattle.conflicts.proofs.ChoiceLaws.{IsFirstLeast, firstLeast-is, firstLeast-in, passing-at, map-at}
-use Rattle.records.proofs.MemberLaws.{concat-at}
+use Rattle.below.proofs.MemberLaws.{concat-at}
 
 module _ {A : Type 0} where
   -- x stands in a list before y

@@ -8,19 +8,19 @@ use Prim.Native.Nat.{ℕ}
 use native.Mathlib.Omega.{arith}
 use lib.Dec.{T}
 use lib.ListN.{length, replicate}
-use Rattle.records.specs.Below.{if_then_else_, isnt}
+use Rattle.below.specs.Below.{if_then_else_, isnt}
 use Rattle.records.specs.Table.{unpackedCells, unpackedTags}
 use Rattle.records.specs.Writing.{packed}
 use Rattle.records.specs.Outcome.{Verdict, accepted, refused}
 use Rattle.records.specs.Rules.{Rule, decide}
 use Rattle.records.proofs.RuleLaws.{accepted-count}
-use Rattle.records.proofs.BelowLaws.{decided, if-true, if-false}
+use Rattle.below.proofs.BelowLaws.{decided, if-true, if-false}
 use Rattle.conflicts.specs.Choice.{zeros, keepAll}
 use Rattle.conflicts.specs.Grid.{Grid, gridOf}
 use Rattle.conflicts.specs.Sides.{errorFree}
 use Rattle.conflicts.specs.Removal.{snpKeepMarks, fragmentKeepMarks}
 use Rattle.conflicts.specs.Answer.{checkAnswer, snpAnswer, fragmentAnswer, correctionAnswer, correctedTable}
-use Rattle.conflicts.specs.Minimality.{everything, TwoClasses, ErrorFree, SnpRemoval, FragmentRemoval}
+use Rattle.conflicts.specs.Minimality.{everything, TwoClasses, ErrorFreeAnswer, SnpRemoval, FragmentRemoval}
 use Rattle.conflicts.specs.Services.{written, writtenOnYes, workAfter, checkRules, removalRules, unpackLeaves, packLeaves, checkLeaves, snpRemovalLeaves, fragmentRemovalLeaves, correctionsLeaves}
 use Rattle.conflicts.proofs.Minimality.{checked, errorFree-classes, snpRemoval, fragmentRemoval}
 
@@ -64,11 +64,11 @@ module _ (n : ℕ) (table answer : List ℕ) where
       none (inr t) = t
 
   -- the answer after a yes
-  pub check-answer : checkLeaves n table answer .outcome ≡ accepted 0 → ErrorFree (gridOf n table) (checkLeaves n table answer .answer)
+  pub check-answer : checkLeaves n table answer .outcome ≡ accepted 0 → ErrorFreeAnswer (gridOf n table) (checkLeaves n table answer .answer)
   unfolding checkLeaves
   check-answer e =
       let w = checked (gridOf n table) (errorFree-classes (gridOf n table) .1 (check-yes 0 e .0 refl)) in
-      subst (λ (v : Verdict). ErrorFree (gridOf n table) (writtenOnYes v (checkAnswer (gridOf n table)) answer)) (sym e) w
+      subst (λ (v : Verdict). ErrorFreeAnswer (gridOf n table) (writtenOnYes v (checkAnswer (gridOf n table)) answer)) (sym e) w
 
   -- "a no from check leaves the answer untouched"
   pub no-untouched : checkLeaves n table answer .outcome ≡ accepted 1 → checkLeaves n table answer .answer ≡ answer

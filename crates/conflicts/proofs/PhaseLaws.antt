@@ -8,13 +8,13 @@ use native.Mathlib.Omega.{arith}
 use lib.Dec.{T}
 use lib.ListN.{length, getD}
 use lib.Seq.{ext-getD}
-use Rattle.records.specs.Below.{if_then_else_, _==_, _<?_, _and_, _or_, isnt, anyBelow, firstBelow, tab, tabFrom, concat}
+use Rattle.below.specs.Below.{if_then_else_, _==_, _<?_, _and_, _or_, isnt, anyBelow, firstBelow, tab, tabFrom, concat}
 use Rattle.records.specs.Record.{isCall}
-use Rattle.records.proofs.BelowLaws.{both, left-of, right-of, if-ind, if-true, if-false, ==-eq, ==-refl, lt-<?, anyBelow-at, anyBelow-of, length-tab, getD-tab}
+use Rattle.below.proofs.BelowLaws.{both, left-of, right-of, if-ind, if-true, if-false, ==-eq, ==-refl, lt-<?, anyBelow-at, anyBelow-of, length-tab, getD-tab}
 use Rattle.conflicts.specs.Choice.{first, marked}
 use Rattle.conflicts.specs.Grid.{Grid, conflictOn}
 use Rattle.conflicts.specs.Sides.{lawful}
-use Rattle.conflicts.specs.Haplotypes.{haplotype, haplotypes}
+use Rattle.conflicts.specs.Haplotypes.{sideCall, haplotype, haplotypes}
 use Rattle.conflicts.specs.Blocks.{linked, Chain, reached, lowest, block}
 use Rattle.conflicts.specs.Answer.{answer, keepMarkIn, sideIn, blockIn}
 use Rattle.conflicts.specs.Phased.{Haplotyped, linkedIn, Blocked, Phased}
@@ -32,7 +32,7 @@ rows m n codes = record { m = m; n = n; cell = λ i c. getD codes (i * n + c) 0 
 
 -- AA, A- on sides 1 and 2: column 0 is A on both, and no one of side 2 calls column 1
 same-letter : haplotypes 2 (rows 2 2 (1 ∷ 1 ∷ 1 ∷ 0 ∷ [])) (1 ∷ 1 ∷ []) (1 ∷ 2 ∷ []) ≡ 1 ∷ 1 ∷ 1 ∷ 0 ∷ []
-unfolding rows _==_ _<?_ _or_ isCall tab concat first marked haplotype haplotypes
+unfolding rows _==_ _<?_ _or_ isCall tab concat first marked sideCall haplotype haplotypes
 same-letter = refl
 
 -- A-, AA, -A without column 0: the first is a block by itself
@@ -63,7 +63,7 @@ module _ (g : Grid) (cols sides : List ℕ) (law : T (lawful g cols sides)) (s c
 
   -- the call of each fragment of the side that calls the column
   pub haplotype-common : (i : ℕ) → i < g .m → getD sides i 0 ≡ s → T (isCall (g .cell i c)) → haplotype g cols sides s c ≡ g .cell i c
-  unfolding haplotype shown tab conflictOn marked
+  unfolding haplotype sideCall shown tab conflictOn marked
   haplotype-common i hi e call =
       let own = shown-on i e in
       let r = first-is isCall (tabFrom 0 (g .m) shown) 0 (some-of isCall (mem-tab shown 0 (g .m) i (omega arith) (omega arith)) (rw own call)) in
@@ -78,7 +78,7 @@ module _ (g : Grid) (cols sides : List ℕ) (law : T (lawful g cols sides)) (s c
 
   -- a hole if none calls it
   pub haplotype-hole : ((i : ℕ) → i < g .m → getD sides i 0 ≡ s → T (isCall (g .cell i c)) → ⊥) → haplotype g cols sides s c ≡ 0
-  unfolding haplotype shown tab
+  unfolding haplotype sideCall shown tab
   haplotype-hole f =
       if-true (marked cols c) _ 3 kept
       ∙ first-none isCall (tabFrom 0 (g .m) shown) 0 (λ y m t.

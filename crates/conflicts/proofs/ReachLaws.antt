@@ -7,8 +7,8 @@ use Prim.Native.Nat.{ℕ, zero, suc, _+_, _≤_, _<_}
 use native.Mathlib.Omega.{arith}
 use lib.Dec.{T}
 use lib.ListN.{getD}
-use Rattle.records.specs.Below.{bit, anyBelow, countBelow, firstBelow, _==_, _and_, _or_, isnt, tab, _<?_}
-use Rattle.records.proofs.BelowLaws.{both, left-of, right-of, or-left, or-right, or-cases, decided, anyBelow-at, anyBelow-of, getD-tab, bit-marked, marked-bit, count-lt, count-bound, firstBelow-at, firstBelow-least, ==-eq, ==-refl, T-isnt}
+use Rattle.below.specs.Below.{bit, anyBelow, countBelow, firstBelow, _==_, _and_, _or_, isnt, tab, _<?_}
+use Rattle.below.proofs.BelowLaws.{both, left-of, right-of, or-left, or-right, or-cases, decided, anyBelow-at, anyBelow-of, getD-tab, bit-marked, marked-bit, count-lt, count-bound, firstBelow-at, firstBelow-least, ==-eq, ==-refl, T-isnt}
 use Rattle.conflicts.specs.Choice.{marked}
 use Rattle.conflicts.specs.Blocks.{Chain, alone, onward, reached, lowest}
 

@@ -5,15 +5,15 @@ use mathlib.Core.Bool.{Bool}
 use mathlib.Core.List.{List, [], _++_}
 use Prim.Native.Nat.{ℕ, zero, suc, _<_}
 use lib.ListN.{getD}
-use Rattle.records.specs.Below.{if_then_else_, bit, tab, concat, firstBelow, _==_, _and_, _or_, isnt}
+use Rattle.below.specs.Below.{if_then_else_, bit, tab, concat, firstBelow, _==_, _and_, _or_, isnt}
 use Rattle.records.specs.Record.{isCall}
-use Rattle.records.proofs.BelowLaws.{any-ext, all-ext}
-use Rattle.records.proofs.RowLaws.{tab-ext}
+use Rattle.below.proofs.BelowLaws.{any-ext, all-ext}
+use Rattle.below.proofs.RowLaws.{tab-ext}
 use Rattle.conflicts.specs.Choice.{some, first, passing, firstLeast, marked, zeros, keepAll, keepLists}
 use Rattle.conflicts.specs.Grid.{Grid, withCells, callsConflict, conflictOn, conflictOnKept}
 use Rattle.conflicts.specs.Sides.{sideLists, sameSide, lawful, errorFree, firstSides}
 use Rattle.conflicts.specs.Removal.{snpKeepMarks, fragmentKeepMarks}
-use Rattle.conflicts.specs.Haplotypes.{haplotype, haplotypes}
+use Rattle.conflicts.specs.Haplotypes.{sideCall, haplotype, haplotypes}
 use Rattle.conflicts.specs.Blocks.{linked, reached, lowest, block}
 use Rattle.conflicts.specs.Answer.{answer, snpAnswer, fragmentAnswer, checkAnswer}
 
@@ -55,7 +55,7 @@ module _ (g : Grid) (cell : ℕ → ℕ → ℕ) (same : (i c : ℕ) → i < g .
   conflicts i j c hi hj hc = ap₂ callsConflict (same i c hi hc) (same j c hj hc)
 
   haplotype-cells : (cols sides : List ℕ) (s c : ℕ) → c < g .n → haplotype g cols sides s c ≡ haplotype (withCells g cell) cols sides s c
-  unfolding haplotype withCells
+  unfolding haplotype sideCall withCells
   haplotype-cells cols sides s c hc =
       ap (λ (l : List ℕ). if marked cols c then first isCall l 0 else 3)
       (tab-ext (g .m) _ _ λ i hi. ap (λ (x : ℕ). if getD sides i 0 == s then x else 0) (same i c hi hc))

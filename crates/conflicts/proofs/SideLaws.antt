@@ -9,8 +9,8 @@ use native.Mathlib.Decide.{ℕ-discrete}
 use native.Mathlib.Omega.{arith}
 use lib.Dec.{T, lit≤}
 use lib.ListN.{length, getD, length-map, length-replicate, getD-replicate}
-use Rattle.records.specs.Below.{if_then_else_, _==_, _<?_, isnt, tab, tabFrom}
-use Rattle.records.proofs.BelowLaws.{both, left-of, right-of, T-isnt, isnt-T, decided, if-true, if-false, ==-eq, ==-refl, <?-lt, lt-<?, allBelow-at, allBelow-of, anyBelow-at, anyBelow-of, length-tab, getD-tab}
+use Rattle.below.specs.Below.{if_then_else_, _==_, _<?_, isnt, tab, tabFrom}
+use Rattle.below.proofs.BelowLaws.{both, left-of, right-of, T-isnt, isnt-T, decided, if-true, if-false, ==-eq, ==-refl, <?-lt, lt-<?, allBelow-at, allBelow-of, anyBelow-at, anyBelow-of, length-tab, getD-tab}
 use Rattle.conflicts.specs.Choice.{first, marked, keepAll}
 use Rattle.conflicts.specs.Grid.{Grid, conflictOn, conflictOnKept}
 use Rattle.conflicts.specs.Sides.{sidesOf, sideLists, sameSide, lawful, errorFree, firstSides}

@@ -5,8 +5,8 @@ use mathlib.Core.Bool.{Bool, true, false}
 use Prim.Native.Nat.{ℕ, zero, suc, _+_, _≤_, _<_}
 use native.Mathlib.Omega.{arith}
 use borrow.Author.Tests.{lt-ltb}
-use Rattle.records.specs.Below.{if_then_else_, bit, _==_, _<?_, _and_, _or_, anyBelow, sumBelow, countBelow}
-use Rattle.records.proofs.BelowLaws.{if-ind, isnt-<?, count-bound}
+use Rattle.below.specs.Below.{if_then_else_, bit, _==_, _<?_, _and_, _or_, anyBelow, sumBelow, countBelow}
+use Rattle.below.proofs.BelowLaws.{if-ind, isnt-<?, count-bound}
 use Rattle.conflicts.specs.Grid.{Grid, mixed}
 use Rattle.conflicts.specs.Tally.{oneMore, tallied, mixedTally, tallyOf}
 

@@ -9,17 +9,17 @@ use native.Mathlib.Nat.{le-antisymm}
 use native.Mathlib.Omega.{arith}
 use lib.Dec.{T}
 use lib.ListN.{getD}
-use Rattle.records.specs.Below.{if_then_else_, _==_, isnt, tab}
+use Rattle.below.specs.Below.{if_then_else_, _==_, isnt, tab}
 use Rattle.records.specs.Record.{isCall}
 use Rattle.records.specs.Table.{fragments}
-use Rattle.records.proofs.BelowLaws.{decided, both, if-ind, ==-eq, isnt-==, ne-isnt, lt-<?, anyBelow-of, getD-tab}
+use Rattle.below.proofs.BelowLaws.{decided, both, if-ind, ==-eq, isnt-==, ne-isnt, lt-<?, anyBelow-of, getD-tab}
 use Rattle.conflicts.specs.Choice.{marked}
 use Rattle.conflicts.specs.Grid.{Grid, gridOf, callsConflict, conflictOn}
 use Rattle.conflicts.specs.Blocks.{linked, alone, onward}
 use Rattle.conflicts.specs.Corrections.{cost, sideLetter, differs, turned}
 use Rattle.conflicts.specs.Answer.{keepMarkIn, sideIn}
 use Rattle.conflicts.specs.Phased.{linkedIn, Blocked}
-use Rattle.conflicts.specs.Minimality.{everything, LawfulSides, ErrorFree, SnpRemoval, FragmentRemoval, SidesCost, Corrected}
+use Rattle.conflicts.specs.Minimality.{everything, LawfulSides, ErrorFreeAnswer, SnpRemoval, FragmentRemoval, SidesCost, Corrected}
 use Rattle.conflicts.specs.Turning.{otherSide, inChosen, turnedSides, BlocksTurn, CorrectedTurn}
 use Rattle.conflicts.proofs.GridLaws.{conflict-self}
 use Rattle.conflicts.proofs.CorrectionLaws.{conflict-calls, cost-bound}
@@ -113,7 +113,7 @@ one-kept x e = ne-isnt x 0 (λ z. omega arith)
 
 module _ {g : Grid} {bytes : List ℕ} where
   -- check's sides on a yes
-  pub check-turns : ErrorFree g bytes → BlocksTurn g everything everything bytes
+  pub check-turns : ErrorFreeAnswer g bytes → BlocksTurn g everything everything bytes
   check-turns w = record { lawful = turned-lawful (w .phased .blocks) (w .sides .fits) (λ c h t. one-kept (keepMarkIn bytes c) (w .marks c h)) }
 
   -- S's, on its kept columns

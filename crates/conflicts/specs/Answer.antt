@@ -3,7 +3,7 @@
 use Prim.Native.Nat.{ℕ, _+_, _*_}
 use mathlib.Core.List.{List, _++_}
 use lib.ListN.{getD, take}
-use Rattle.records.specs.Below.{if_then_else_, _<?_, tab, concat}
+use Rattle.below.specs.Below.{if_then_else_, _<?_, tab, concat}
 use Rattle.records.specs.Record.{startOf, spanOf, cellOf}
 use Rattle.records.specs.Table.{fragments, recordAt}
 use Rattle.records.specs.Writing.{cellBytes}

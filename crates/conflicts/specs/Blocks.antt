@@ -4,7 +4,7 @@ use Prim.Native.Nat.{ℕ, zero, suc, _<_}
 use mathlib.Core.Bool.{Bool}
 use mathlib.Core.List.{List}
 use lib.Dec.{T}
-use Rattle.records.specs.Below.{bit, if_then_else_, _==_, _and_, _or_, anyBelow, firstBelow, tab}
+use Rattle.below.specs.Below.{bit, if_then_else_, _==_, _and_, _or_, anyBelow, firstBelow, tab}
 use Rattle.records.specs.Record.{isCall}
 use Rattle.conflicts.specs.Choice.{marked}
 use Rattle.conflicts.specs.Grid.{Grid}

@@ -4,7 +4,7 @@ use Prim.Native.Nat.{ℕ}
 use mathlib.Core.Bool.{Bool, false}
 use mathlib.Core.List.{List, [], _∷_, map}
 use lib.ListN.{length, getD, replicate}
-use Rattle.records.specs.Below.{if_then_else_, _==_, _<?_, _≤?_, _or_, countBelow, concat}
+use Rattle.below.specs.Below.{if_then_else_, _==_, _<?_, _≤?_, _or_, countBelow, concat}
 
 module _ {A : Type 0} where
   -- every list with one member from each of the lists of options; "at the first place where two choices differ", the earlier option comes first

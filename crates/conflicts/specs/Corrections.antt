@@ -4,7 +4,7 @@ use Prim.Native.Nat.{ℕ, suc, _-_, min}
 use mathlib.Core.Bool.{Bool}
 use mathlib.Core.List.{List, []}
 use lib.ListN.{getD}
-use Rattle.records.specs.Below.{if_then_else_, _==_, _<?_, _and_, isnt, sumBelow, countBelow}
+use Rattle.below.specs.Below.{nth, if_then_else_, _==_, _<?_, _and_, isnt, sumBelow, countBelow}
 use Rattle.records.specs.Record.{isCall}
 use Rattle.conflicts.specs.Choice.{firstLeast, keepAll}
 use Rattle.conflicts.specs.Grid.{Grid, withCells}
@@ -14,9 +14,9 @@ use Rattle.conflicts.specs.Sides.{sideLists}
 unfoldable pub correctionCost : Grid → ℕ → ℕ
 correctionCost g i = 1
 
--- the "count" of a letter on side s at column c: what it costs to turn every such call
-unfoldable pub sideCount : Grid → List ℕ → ℕ → ℕ → ℕ → ℕ
-sideCount g sides s c letter = sumBelow (g .m) (λ i. if getD sides i 0 == s and g .cell i c == letter then correctionCost g i else 0)
+-- the "count" of a letter on side s at column c, at given sides of the fragments: what it costs to turn every such call
+unfoldable pub sideCount : Grid → (ℕ → ℕ) → ℕ → ℕ → ℕ → ℕ
+sideCount g side s c letter = sumBelow (g .m) (λ i. if side i == s and g .cell i c == letter then correctionCost g i else 0)
 
 -- the price of a side at a column: "the smaller of the counts of A and B"
 unfoldable pub sidePrice : ℕ → ℕ → ℕ
@@ -26,9 +26,13 @@ sidePrice a b = min a b
 unfoldable pub majorityLetter : ℕ → ℕ → ℕ
 majorityLetter a b = if a <? b then 2 else 1
 
+-- what column c costs at given sides: the sum over the k sides of the price
+unfoldable pub columnCost : ℕ → Grid → ℕ → (ℕ → ℕ) → ℕ
+columnCost k g c side = sumBelow k (λ s. sidePrice (sideCount g side (suc s) c 1) (sideCount g side (suc s) c 2))
+
 -- "the cost": the sum over columns and sides of the price
 unfoldable pub cost : ℕ → Grid → List ℕ → ℕ
-cost k g sides = sumBelow (g .n) (λ c. sumBelow k (λ s. sidePrice (sideCount g sides (suc s) c 1) (sideCount g sides (suc s) c 2)))
+cost k g sides = sumBelow (g .n) (λ c. columnCost k g c (nth sides))
 
 -- C's sides: the first side list of "least cost"
 unfoldable pub leastCostSides : ℕ → Grid → List ℕ
@@ -36,7 +40,7 @@ leastCostSides k g = firstLeast (cost k g) (sideLists k (keepAll (g .m))) []
 
 -- the letter of side s at column c
 unfoldable pub sideLetter : Grid → List ℕ → ℕ → ℕ → ℕ
-sideLetter g sides s c = majorityLetter (sideCount g sides s c 1) (sideCount g sides s c 2)
+sideLetter g sides s c = majorityLetter (sideCount g (nth sides) s c 1) (sideCount g (nth sides) s c 2)
 
 -- a cell "after correction": a call becomes its side's letter, and a hole stays
 unfoldable pub correctedCell : Grid → List ℕ → ℕ → ℕ → ℕ

@@ -4,7 +4,7 @@ use Prim.Native.Nat.{ℕ, _+_, _*_}
 use mathlib.Core.Bool.{Bool}
 use mathlib.Core.List.{List}
 use lib.ListN.{length, getD}
-use Rattle.records.specs.Below.{_==_, _and_, _or_, isnt, allBelow, anyBelow, countBelow}
+use Rattle.below.specs.Below.{_==_, _and_, _or_, isnt, allBelow, anyBelow, countBelow}
 use Rattle.records.specs.Record.{isCall, codeAt}
 use Rattle.records.specs.Table.{fragments, recordAt}
 use Rattle.records.specs.Rules.{gapIn}

@@ -1,7 +1,7 @@
 -- The one number that a call from C returns for an outcome, and how it is read (paper 01, "Refused tables": 1,000 × number + place).
 -- Assumes nothing.
 use Prim.Native.Nat.{ℕ, _+_, _*_, _/_, _%_, _≤_, _<_}
-use Rattle.records.specs.Below.{if_then_else_, _<?_}
+use Rattle.below.specs.Below.{if_then_else_, _<?_}
 use Rattle.records.specs.Outcome.{Verdict, accepted, refused}
 
 -- a count as it is, a refusal as base × number + place

@@ -1,6 +1,5 @@
 pub mod Choice
 pub mod Grid
-pub mod Matrix
 pub mod Tally
 pub mod Sides
 pub mod Removal

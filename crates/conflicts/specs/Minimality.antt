@@ -7,7 +7,7 @@ use mathlib.Core.List.{List}
 use Prim.Native.Nat.{ℕ, _+_, _≤_, _<_}
 use lib.Dec.{T}
 use lib.ListN.{length, getD}
-use Rattle.records.specs.Below.{bit, _==_, _<?_, _and_, isnt, countBelow, tab}
+use Rattle.below.specs.Below.{bit, _==_, _<?_, _and_, isnt, countBelow, tab}
 use Rattle.records.specs.Record.{startOf, spanOf, isCall, cellOf}
 use Rattle.records.specs.Table.{fragments, recordAt}
 use Rattle.conflicts.specs.Grid.{Grid, conflictOn, agree, gridOf}
@@ -79,7 +79,7 @@ abbrev pub FirstSides : ℕ → Grid → (ℕ → Bool) → (ℕ → Bool) → (
 FirstSides k g keptCols keptFrags side = FirstOf (LawfulSides k g keptCols keptFrags) (g .m) (λ s. s) side
 
 -- what check's answer says on a yes: "takes the table's first" lawful sides
-pub record ErrorFree (g : Grid) (bytes : List ℕ) : Type 0 where
+pub record ErrorFreeAnswer (g : Grid) (bytes : List ℕ) : Type 0 where
   pub filled : length bytes ≡ answerSize (g .m) (g .n)
   pub marks : (c : ℕ) → c < g .n → keepMarkIn bytes c ≡ 1
   pub sides : FirstSides 2 g everything everything (sideIn (g .n) bytes)
@@ -108,17 +108,12 @@ pub record SidesCost (k : ℕ) (g : Grid) (number : ℕ) (side : ℕ → ℕ) : 
   pub on : (i : ℕ) → i < g .m → (1 ≤ side i) × (side i ≤ k)
   pub costs : cost k g (tab (g .m) side) ≡ number
 
--- cell k of record i stands for a column of the matrix in which the two tables differ
-unfoldable pub differsAt : ℕ → List ℕ → List ℕ → ℕ → ℕ → Bool
-differsAt n given table i k =
-    k <? spanOf (recordAt given i) and startOf (recordAt given i) + k <? n and differs (gridOf n given) (gridOf n table) i (startOf (recordAt given i) + k)
-
--- "no other bit is changed": not in bytes 0 to 7 of a record, and in none of its 96 cells but those
-pub record OthersKept (n : ℕ) (given table : List ℕ) : Type 0 where
+-- "no other bit is changed": bytes 0 to 7 of each record stay, and so do its cells after the span. Cells of the span stand for columns, and are counted where they differ
+pub record OthersKept (given table : List ℕ) : Type 0 where
   pub size : length table ≡ length given
   pub bytes : (j : ℕ) → j < length table → getD table j 0 < 256
   pub headers : (i b : ℕ) → i < fragments given → b < 8 → getD (recordAt table i) b 0 ≡ getD (recordAt given i) b 0
-  pub cells : (i k : ℕ) → i < fragments given → k < 96 → T (isnt (differsAt n given table i k)) → cellOf (recordAt table i) k ≡ cellOf (recordAt given i) k
+  pub later : (i k : ℕ) → i < fragments given → spanOf (recordAt given i) ≤ k → k < 96 → cellOf (recordAt table i) k ≡ cellOf (recordAt given i) k
 
 -- what C's answer, table and number say: "the cells in which its table differs from the one given: these are corrected there, and no other bit is changed"
 pub record Corrected (n : ℕ) (given : List ℕ) (bytes table : List ℕ) (number : ℕ) : Type 0 where
@@ -127,7 +122,7 @@ pub record Corrected (n : ℕ) (given : List ℕ) (bytes table : List ℕ) (numb
   pub fewest : Fewest (CallsWork (gridOf n given)) (cellCount (gridOf n given)) (differs (gridOf n given) (gridOf n table)) number
   pub turns : (i c : ℕ) → i < gridOf n given .m → c < n → gridOf n table .cell i c ≡ turned (gridOf n given) (differs (gridOf n given) (gridOf n table)) .cell i c
   pub holes : (i c : ℕ) → i < gridOf n given .m → c < n → T (isnt (isCall (gridOf n given .cell i c))) → gridOf n table .cell i c ≡ gridOf n given .cell i c
-  pub others : OthersKept n given table
+  pub others : OthersKept given table
   pub sides : FirstOf (SidesCost 2 (gridOf n given) number) (gridOf n given .m) (λ s. s) (sideIn n bytes)
   pub cheapest : (side : ℕ → ℕ) (other : ℕ) → SidesCost 2 (gridOf n given) other side → number ≤ other
   pub letters : (i c : ℕ) → i < gridOf n given .m → c < n → T (isCall (gridOf n given .cell i c))

@@ -5,7 +5,7 @@ use mathlib.Core.Bool.{Bool}
 use mathlib.Core.List.{List}
 use Prim.Native.Nat.{ℕ, suc, _≤_, _<_}
 use lib.Dec.{T}
-use Rattle.records.specs.Below.{_==_, isnt, tab}
+use Rattle.below.specs.Below.{_==_, isnt, tab}
 use Rattle.records.specs.Record.{isCall}
 use Rattle.conflicts.specs.Grid.{Grid}
 use Rattle.conflicts.specs.Blocks.{linked, Chain}

@@ -1,9 +1,9 @@
 -- The seven services: the rules of each in the order in which they are tested, and everything that a call leaves (paper 01, "Refused tables").
 -- Assumes nothing.
 use Prim.Native.Nat.{ℕ, zero, suc, _*_}
-use mathlib.Core.List.{List, [], _∷_}
+use mathlib.Core.List.{List, [], _∷_, _++_}
 use lib.ListN.{length, getD, replicate}
-use Rattle.records.specs.Below.{if_then_else_, _==_, _<?_, isnt, anyBelow, tab, concat}
+use Rattle.below.specs.Below.{if_then_else_, _==_, _<?_, isnt, anyBelow, tab, concat}
 use Rattle.records.specs.Table.{fragments, partStart, partLength, position, unpackedCells, unpackedTags}
 use Rattle.records.specs.Writing.{callsSpan, rowOf, packed}
 use Rattle.records.specs.Outcome.{Verdict, accepted, refused}
@@ -55,19 +55,20 @@ packRules n cells tags table =
 unfoldable pub checkRules : ℕ → List ℕ → List ℕ → List Rule
 checkRules n table answer = concat (sizeRules n table ∷ (lengthRule answer (answerSize (fragments table) n) ∷ []) ∷ tableRules n table ∷ [])
 
+-- the first stages of S, F and C: 3, 1, 2; 10; 11 for the answer
+unfoldable pub lentStages : ℕ → List ℕ → List ℕ → List ℕ → List (List Rule)
+lentStages n table answer work = sizeRules n table ∷ workRules work ∷ (lengthRule answer (answerSize (fragments table) n) ∷ []) ∷ []
+
 -- S's and F's
 unfoldable pub removalRules : ℕ → List ℕ → List ℕ → List ℕ → List Rule
-removalRules n table answer work =
-    concat (sizeRules n table ∷ workRules work ∷ (lengthRule answer (answerSize (fragments table) n) ∷ []) ∷ tableRules n table ∷ [])
+removalRules n table answer work = concat (lentStages n table answer work ++ (tableRules n table ∷ []))
+
+-- C's stages before 12: those, 11 for its table, and the records
+unfoldable pub correctionStages : ℕ → List ℕ → List ℕ → List ℕ → List ℕ → List (List Rule)
+correctionStages n table answer output work = lentStages n table answer work ++ ((lengthRule output (32 * fragments table) ∷ []) ∷ tableRules n table ∷ [])
 
 unfoldable pub correctionRules : ℕ → List ℕ → List ℕ → List ℕ → List ℕ → List Rule
-correctionRules n table answer output work =
-    concat (sizeRules n table
-    ∷ workRules work
-    ∷ (lengthRule answer (answerSize (fragments table) n) ∷ lengthRule output (32 * fragments table) ∷ [])
-    ∷ tableRules n table
-    ∷ depthRules (gridOf n table)
-    ∷ [])
+correctionRules n table answer output work = concat (correctionStages n table answer output work ++ (depthRules (gridOf n table) ∷ []))
 
 -- ---- what a buffer holds after a call
 

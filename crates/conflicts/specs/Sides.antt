@@ -4,7 +4,7 @@ use Prim.Native.Nat.{ℕ, suc}
 use mathlib.Core.Bool.{Bool}
 use mathlib.Core.List.{List, [], _∷_, map}
 use lib.ListN.{getD}
-use Rattle.records.specs.Below.{if_then_else_, _==_, _<?_, _and_, isnt, allBelow, tab}
+use Rattle.below.specs.Below.{if_then_else_, _==_, _<?_, _and_, isnt, allBelow, tab}
 use Rattle.conflicts.specs.Choice.{choices, some, first, marked}
 use Rattle.conflicts.specs.Grid.{Grid, conflictOnKept}
 

@@ -2,7 +2,7 @@
 -- Assumes nothing.
 use Prim.Native.Nat.{ℕ, zero, suc, _+_}
 use mathlib.Core.Bool.{Bool}
-use Rattle.records.specs.Below.{if_then_else_, _==_, _<?_, _and_}
+use Rattle.below.specs.Below.{if_then_else_, _==_, _<?_, _and_}
 use Rattle.conflicts.specs.Grid.{Grid}
 use Rattle.conflicts.specs.declared.Tally.{Tally}
 

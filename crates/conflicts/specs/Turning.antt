@@ -3,7 +3,7 @@
 use mathlib.Core.Bool.{Bool}
 use mathlib.Core.List.{List}
 use Prim.Native.Nat.{ℕ}
-use Rattle.records.specs.Below.{if_then_else_, _==_}
+use Rattle.below.specs.Below.{if_then_else_, _==_}
 use Rattle.conflicts.specs.Grid.{Grid, gridOf}
 use Rattle.conflicts.specs.Answer.{sideIn, blockIn}
 use Rattle.conflicts.specs.Minimality.{everything, LawfulSides, SidesCost}

@@ -1,7 +1,7 @@
 // The conflict rules of paper 001, section 3: the tally of a column, and conflicts of calls and of fragments.
 ghost use mathlib.Core.Path.{_≡_};
 ghost use lib.ListN.{getD};
-ghost use Rattle.records.specs.Below.{_and_};
+ghost use Rattle.below.specs.Below.{_and_};
 ghost use Rattle.conflicts.specs.Choice.{marked};
 ghost use Rattle.conflicts.specs.Grid.{callsConflict, rowsConflict};
 ghost use Rattle.conflicts.specs.Tally.{noCalls, oneMore, tallied, mixedTally};

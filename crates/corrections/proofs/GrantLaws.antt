@@ -10,17 +10,17 @@ use native.Mathlib.Omega.{arith}
 use lib.Dec.{T}
 use lib.ListN.{length, getD, set, replicate, length-set}
 use lib.Seq.{getD-set-same, getD-set-other}
-use Rattle.records.specs.Below.{_==_, _and_, isnt, countBelow}
-use Rattle.records.proofs.SearchLaws.{<?-true, <?-false, ≤?-true, ≤?-false}
+use Rattle.below.specs.Below.{_==_, _and_, isnt, countBelow, nth}
+use Rattle.below.proofs.SearchLaws.{<?-true, <?-false, ≤?-true, ≤?-false}
 use Rattle.conflicts.specs.Grid.{Grid}
-use Rattle.ranks.specs.Tables.{Put}
-use Rattle.events.specs.Events.{withValue}
-use Rattle.events.specs.Slots.{turnOf, taken, freeSlot, Given, gathered}
+use Rattle.ranks.specs.Algorithm.Tables.{Put}
+use Rattle.events.specs.Algorithm.Events.{withValue}
+use Rattle.events.specs.Algorithm.Slots.{turnOf, taken, freeSlot, Given, gathered}
 use Rattle.events.proofs.LeastLaws.{value-same, value-other}
 use Rattle.events.proofs.FreeLaws.{free-below, free-apart, given-none, given-skip, given-more, given-next, given-apart}
 use Rattle.events.proofs.GatherLaws.{gathered-here, gathered-there}
-use Rattle.corrections.specs.Columns.{startOf, covers, coverage, Shallow}
-use Rattle.corrections.specs.Sweep.{nth, hitSlot, Spanned, Granted, Slotted, Gathered}
+use Rattle.corrections.specs.Algorithm.Columns.{firstColumn, covers, coverage, Shallow}
+use Rattle.corrections.specs.Algorithm.Sweep.{hitSlot, Spanned, Granted, Slotted, Gathered}
 use Rattle.corrections.proofs.CoverLaws.{covers-at, covers-of, grid-starts}
 
 -- ---- lists
@@ -64,7 +64,7 @@ module _ (g : Grid) (starts ends : List ℕ) (sp : Spanned g starts ends) where
   -- ---- what the lists say of a fragment
 
   pub hit-is : (slots : List ℕ) (c turn b x : ℕ) → x < g .m
-      → hitSlot (getD starts x 0) (getD ends x 0) x (getD slots x 0) c turn b ≡ (taken (startOf g) (covers g) c turn x and nth slots x == b)
+      → hitSlot (getD starts x 0) (getD ends x 0) x (getD slots x 0) c turn b ≡ (taken (firstColumn g) (covers g) c turn x and nth slots x == b)
   unfolding hitSlot taken covers _and_
   hit-is slots c turn b x lt = rw (sp .begins x lt, sp .stops x lt, <?-true x (g .m) lt)
 
@@ -79,7 +79,7 @@ module _ (g : Grid) (starts ends : List ℕ) (sp : Spanned g starts ends) where
 
 module _ (g : Grid) (small : g .m ≤ 128) where
   abbrev start : ℕ → ℕ
-  start = startOf g
+  start = firstColumn g
 
   given-same : (turn : ℕ) (s t : ℕ → ℕ) → ((x : ℕ) → s x ≡ t x) → Given start (covers g) (g .m) (g .n) 8 turn s → Given start (covers g) (g .m) (g .n) 8 turn t
   given-same turn s t e h = record {

@@ -2,20 +2,20 @@
 -- Assumes nothing.
 use mathlib.Core.Path.{_≡_}
 use Prim.Native.Nat.{_+_, _^_, _≤_, _<_}
-use Rattle.records.specs.Below.{tab}
+use Rattle.below.specs.Below.{tab}
 use Rattle.conflicts.specs.Grid.{Grid}
-use Rattle.conflicts.specs.Corrections.{sideCount, cost, leastCostSides}
+use Rattle.conflicts.specs.Corrections.{sideCount, cost, leastCostSides, columnCost}
 use Rattle.ranks.specs.declared.rank.Rank.{Rank}
-use Rattle.ranks.specs.Weight.{digitAt}
-use Rattle.ranks.specs.Reading.{code, value}
-use Rattle.events.specs.Events.{leastWeight, allFirst, events}
-use Rattle.events.specs.Weights.{sideWeight, columnWeight, costOf}
+use Rattle.ranks.specs.Algorithm.Weight.{digitAt}
+use Rattle.ranks.specs.Algorithm.Reading.{code, value}
+use Rattle.events.specs.Algorithm.Events.{leastEventWeight, allFirst, events}
+use Rattle.events.specs.Algorithm.Weights.{sideWeight, columnWeight, costOf}
 use Rattle.events.proofs.LightestLaws.{rank-sides}
-use Rattle.corrections.specs.Columns.{startOf, covers, letterCount, columnCost}
+use Rattle.corrections.specs.Algorithm.Columns.{firstColumn, covers}
 use Rattle.corrections.proofs.CoverLaws.{grid-starts, cost-local}
 
 pub least-sides : (g : Grid) → g .m ≤ 128 → (r : Rank) → r .high < 2 ^ 64 → r .low < 2 ^ 64
-    → value r ≡ leastWeight 2 sideWeight (columnWeight (columnCost 2 g)) (events (startOf g) (g .m) (g .n)) allFirst
+    → value r ≡ leastEventWeight 2 sideWeight (columnWeight (columnCost 2 g)) (events (firstColumn g) (g .m) (g .n)) allFirst
     → (tab (g .m) (λ p. 1 + digitAt (code r) p) ≡ leastCostSides 2 g) × (r .count ≡ cost 2 g (leastCostSides 2 g))
-unfolding leastCostSides cost costOf columnCost sideCount letterCount
-least-sides g small r hh hl e = rank-sides (g .m) (g .n) (startOf g) (covers g) (grid-starts g) (columnCost 2 g) (cost-local g 2) small r hh hl e
+unfolding leastCostSides cost costOf columnCost sideCount
+least-sides g small r hh hl e = rank-sides (g .m) (g .n) (firstColumn g) (covers g) (grid-starts g) (columnCost 2 g) (cost-local g 2) small r hh hl e

@@ -7,32 +7,30 @@ use mathlib.Core.List.{List}
 use Prim.Native.Nat.{ℕ, suc, _+_, _≤_, _<_, min}
 use native.Mathlib.Omega.{arith}
 use lib.Dec.{T}
-use Rattle.records.specs.Below.{if_then_else_, bit, sumBelow, countBelow, _==_, _and_, isnt}
-use Rattle.records.proofs.BelowLaws.{right-of, decided, T-isnt, if-true, if-false, same-test, ==-eq, eq-==, sum-ext, count-next, count-bound}
+use Rattle.below.proofs.TestLaws.{if-bit}
+use Rattle.below.specs.Below.{if_then_else_, bit, sumBelow, countBelow, _==_, _and_, isnt, nth}
+use Rattle.below.proofs.BelowLaws.{right-of, decided, T-isnt, if-true, if-false, same-test, ==-eq, eq-==, sum-ext, count-next, count-bound}
 use Rattle.records.proofs.ExtentLaws.{call-of}
 use Rattle.conflicts.specs.Grid.{Grid}
-use Rattle.conflicts.specs.Corrections.{correctionCost, sidePrice}
-use Rattle.events.specs.Slots.{digit, sidesAt}
+use Rattle.conflicts.specs.Corrections.{correctionCost, sidePrice, sideCount, columnCost}
+use Rattle.events.specs.Algorithm.Slots.{digit, sidesAt}
 use Rattle.events.proofs.GatherLaws.{gathered-sum}
-use Rattle.corrections.specs.Columns.{covers, letterCount, columnCost}
-use Rattle.corrections.specs.Sweep.{nth, Slotted, Gathered, slotHas, slotCost}
+use Rattle.corrections.specs.Algorithm.Columns.{covers}
+use Rattle.corrections.specs.Algorithm.Sweep.{Slotted, Gathered}
+use Rattle.patterns.specs.Algorithm.Patterns.{slotHas, slotCost}
 use Rattle.corrections.proofs.CoverLaws.{called-covers}
 
 bit-false : (b : Bool) → (T b → ⊥) → bit b ≡ 0
 bit-false true f = absurd (f tt)
 bit-false false f = refl
 
-pub if-bit : (b : Bool) → (if b then 1 else 0) ≡ bit b
-if-bit true = refl
-if-bit false = refl
-
 suc-same : (a b : ℕ) → (a == b) ≡ (suc a == suc b)
 suc-same a b = same-test _ _ (λ t. eq-== _ _ (ap suc (==-eq a b t))) (λ t. let e = ==-eq (suc a) (suc b) t in eq-== a b (omega arith))
 
 module _ (g : Grid) (slots letters : List ℕ) (c mask : ℕ) (lt : c < g .n) (sl : Slotted g slots) (ga : Gathered g slots c (g .m) letters) where
   -- the count of a letter on a side, over the slots and over the fragments
-  slot-count : (d letter : ℕ) → 0 < letter → letter ≤ 2 → countBelow 8 (slotHas letters mask d letter) ≡ letterCount g (sidesAt 2 (nth slots) mask) (suc d) c letter
-  unfolding countBelow slotHas letterCount correctionCost sidesAt
+  slot-count : (d letter : ℕ) → 0 < letter → letter ≤ 2 → countBelow 8 (slotHas letters mask d letter) ≡ sideCount g (sidesAt 2 (nth slots) mask) (suc d) c letter
+  unfolding countBelow slotHas sideCount correctionCost sidesAt
   slot-count d letter lo hi =
       sum-ext 8 _ _ (λ b l. ap (λ (y : ℕ). bit (digit 2 b mask == d and y == letter)) (ga .letter b l))
       ∙ gathered-sum (covers g c) (nth slots) (λ j. g .cell j c) 8 (λ b y. bit (digit 2 b mask == d and y == letter))
@@ -60,29 +58,3 @@ module _ (g : Grid) (slots letters : List ℕ) (c mask : ℕ) (lt : c < g .n) (s
       let one = ap₂ sidePrice (slot-count 0 1 (omega arith) (omega arith)) (slot-count 0 2 (omega arith) (omega arith)) in
       let two = ap₂ sidePrice (slot-count 1 1 (omega arith) (omega arith)) (slot-count 1 2 (omega arith) (omega arith)) in
       omega arith
-
--- ---- the loop over the slots
-
-pub has-none : (letters : List ℕ) (mask d letter : ℕ) → 0 ≡ countBelow 0 (slotHas letters mask d letter)
-unfolding countBelow sumBelow
-has-none letters mask d letter = refl
-
-pub has-more : (letters : List ℕ) (mask d letter b count x digit-b r : ℕ) → count ≡ countBelow b (slotHas letters mask d letter) → x ≡ bit (digit-b == d and nth letters b == letter)
-    → digit-b ≡ digit 2 b mask → r ≡ count + x → r ≡ countBelow (b + 1) (slotHas letters mask d letter)
-unfolding slotHas
-has-more letters mask d letter b count x digit-b r ec ex ed er =
-    er ∙ ap₂ _+_ ec (ex ∙ ap (λ (y : ℕ). bit (y == d and nth letters b == letter)) ed) ∙ sym (count-next b (λ b. digit 2 b mask == d and nth letters b == letter))
-
--- the counts so far are few
-pub has-few : (letters : List ℕ) (mask d letter b count : ℕ) → count ≡ countBelow b (slotHas letters mask d letter) → count ≤ b
-has-few letters mask d letter b count e = let h = count-bound b (slotHas letters mask d letter) in omega arith
-
-pub cost-made : (letters : List ℕ) (mask b a1 b1 a2 b2 : ℕ) {r : ℕ} → b ≡ 8
-    → a1 ≡ countBelow b (slotHas letters mask 0 1) → b1 ≡ countBelow b (slotHas letters mask 0 2)
-    → a2 ≡ countBelow b (slotHas letters mask 1 1) → b2 ≡ countBelow b (slotHas letters mask 1 2) → r ≡ min a1 b1 + min a2 b2 → r ≡ slotCost letters mask
-unfolding slotCost sidePrice
-cost-made letters mask b a1 b1 a2 b2 eb ea1 eb1 ea2 eb2 er =
-    er ∙ ap₂ _+_ (ap₂ min (at 0 1 a1 ea1) (at 0 2 b1 eb1)) (ap₂ min (at 1 1 a2 ea2) (at 1 2 b2 eb2))
-  where
-    at : (d letter x : ℕ) → x ≡ countBelow b (slotHas letters mask d letter) → x ≡ countBelow 8 (slotHas letters mask d letter)
-    at d letter x e = e ∙ ap (λ (y : ℕ). countBelow y (slotHas letters mask d letter)) eb

@@ -5,27 +5,29 @@ use mathlib.Core.List.{List, _∷_}
 use Prim.Native.Nat.{ℕ, suc, _+_, _*_, _-_, _≤_, _<_, zero-le}
 use native.Mathlib.Numerals.{add-one}
 use native.Mathlib.Omega.{arith}
-use Rattle.records.specs.Below.{_==_}
-use Rattle.records.proofs.BelowLaws.{if-true, if-false, eq-==, ne-isnt}
+use Rattle.below.specs.Below.{_==_, nth}
+use Rattle.below.proofs.BelowLaws.{if-true, if-false, eq-==, ne-isnt}
 use Rattle.conflicts.specs.Grid.{Grid}
-use Rattle.ranks.specs.Weight.{top, place, weight}
-use Rattle.ranks.specs.Tables.{Sweep}
+use Rattle.ranks.specs.Algorithm.Weight.{top, place, weight}
+use Rattle.ranks.specs.Algorithm.Tables.{Sweep}
 use Rattle.ranks.proofs.WeightLaws.{places-top}
-use Rattle.events.specs.Events.{enter, leastWeight, allFirst, entering, eventsFrom, events, partOf}
-use Rattle.events.specs.Weights.{sideWeight, columnWeight}
-use Rattle.events.specs.Slots.{sidesAt, entered}
+use Rattle.events.specs.Algorithm.Events.{enter, leastEventWeight, allFirst, entering, eventsFrom, events, partOf}
+use Rattle.events.specs.Algorithm.Weights.{sideWeight, columnWeight}
+use Rattle.events.specs.Algorithm.Slots.{sidesAt, entered}
 use Rattle.events.proofs.EventLaws.{Absent, Ordered}
 use Rattle.events.proofs.ColumnLaws.{ordered-from, ordered-column}
 use Rattle.events.proofs.SlotLaws.{holds-none, holds-charge, holds-enter, holds-end, enter-apart}
 use Rattle.events.proofs.ShapeLaws.{shaped, few-from, few-part, charges-from, charges-part, places-fit}
-use Rattle.corrections.specs.Columns.{startOf, covers, columnCost, Shallow}
-use Rattle.corrections.specs.Sweep.{nth, Slotted, Gathered, slotCost, Roomy, HoldsAll}
+use Rattle.corrections.specs.Algorithm.Columns.{firstColumn, covers, Shallow}
+use Rattle.conflicts.specs.Corrections.{columnCost}
+use Rattle.corrections.specs.Algorithm.Sweep.{Slotted, Gathered, HoldsAll}
+use Rattle.patterns.specs.Algorithm.Patterns.{slotCost, PatternsRoom}
 use Rattle.corrections.proofs.CoverLaws.{grid-starts, weight-local, cost-bound}
 use Rattle.corrections.proofs.SlotCostLaws.{slot-cost-is}
 
 module _ (g : Grid) where
   abbrev start : ℕ → ℕ
-  start = startOf g
+  start = firstColumn g
 
   -- ---- the events of a column, from fragment f on
 
@@ -55,7 +57,7 @@ module _ (g : Grid) where
     few-cost a b = omega arith
 
     -- a column can be charged
-    pub column-room : (c q : ℕ) (v : ℕ → ℕ) → c + q ≤ g .n → HoldsAll g slots (eventsFrom start (g .m) c q) v → Roomy 0 0 v
+    pub column-room : (c q : ℕ) (v : ℕ → ℕ) → c + q ≤ g .n → HoldsAll g slots (eventsFrom start (g .m) c q) v → PatternsRoom 0 0 v
     unfolding weight
     column-room c q v fits h = record {
       room = λ mask lo lt.
@@ -72,7 +74,7 @@ module _ (g : Grid) where
     }
 
     -- fragment f can enter
-    pub part-room : (c q f : ℕ) (v : ℕ → ℕ) → c + suc q ≤ g .n → f < g .m → start f ≡ c → HoldsAll g slots (partOf start (g .m) c (f + 1) (g .m - (f + 1)) q) v → Roomy (place f) 0 v
+    pub part-room : (c q f : ℕ) (v : ℕ → ℕ) → c + suc q ≤ g .n → f < g .m → start f ≡ c → HoldsAll g slots (partOf start (g .m) c (f + 1) (g .m - (f + 1)) q) v → PatternsRoom (place f) 0 v
     unfolding weight
     part-room c q f v fits lt e h = record {
       room = λ mask lo ml.
@@ -137,5 +139,5 @@ module _ (g : Grid) where
         let k : g .n - 0 ≡ g .n = omega arith in
         subst (λ (x : ℕ). HoldsAll g slots (eventsFrom start (g .m) 0 x) v) k (subst (λ (x : ℕ). HoldsAll g slots (eventsFrom start (g .m) x (g .n - x)) v) e h)
 
-    pub holds-least : (v : ℕ → ℕ) → HoldsAll g slots (events start (g .m) (g .n)) v → v 0 ≡ leastWeight 2 sideWeight (columnWeight (columnCost 2 g)) (events start (g .m) (g .n)) allFirst
+    pub holds-least : (v : ℕ → ℕ) → HoldsAll g slots (events start (g .m) (g .n)) v → v 0 ≡ leastEventWeight 2 sideWeight (columnWeight (columnCost 2 g)) (events start (g .m) (g .n)) allFirst
     holds-least v h = holds-end 2 (omega arith) sideWeight (columnWeight (columnCost 2 g)) (nth slots) 8 (g .n) (covers g) (weight-local g 2) (g .m) start (grid-starts g) v h

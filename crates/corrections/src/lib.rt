@@ -4,17 +4,12 @@ ghost use mathlib.Core.Path.{_≡_};
 ghost use lib.ListN.{length};
 ghost use Rattle.conflicts.specs.Grid.{matrixGrid};
 ghost use Rattle.conflicts.specs.Corrections.{cost, leastCostSides};
-ghost use Rattle.corrections.specs.Columns.{Shallow};
-ghost use Rattle.conflicts.specs.Matrix.{Matrix};
+ghost use Rattle.corrections.specs.Algorithm.Columns.{Shallow};
+ghost use Rattle.matrix.specs.Algorithm.Matrix.{Matrix};
 
-mod depth;
-mod letters;
 mod slots;
 mod spans;
 mod sweep;
-
-pub use depth::first_deep;
-pub use letters::correct_cells;
 
 // Writes the first side list of least cost, and returns that cost.
 pub fn least_cost_sides(m: usize, n: usize, cells: &[u8], sides: &mut [u8]) -> usize

@@ -3,10 +3,11 @@ ghost use mathlib.Core.Path.{_≡_};
 ghost use Prim.Native.Nat.{_+_, _*_, _<_, _≤_};
 ghost use lib.ListN.{length};
 ghost use Rattle.conflicts.specs.Grid.{matrixGrid};
-ghost use Rattle.events.specs.Slots.{used, freeSlot};
-ghost use Rattle.corrections.specs.Columns.{Shallow, startOf, covers};
-ghost use Rattle.conflicts.specs.Matrix.{Matrix};
-ghost use Rattle.corrections.specs.Sweep.{nth, hitSlot, Spanned, Granted, Slotted};
+ghost use Rattle.events.specs.Algorithm.Slots.{used, freeSlot};
+ghost use Rattle.corrections.specs.Algorithm.Columns.{Shallow, firstColumn, covers};
+ghost use Rattle.matrix.specs.Algorithm.Matrix.{Matrix};
+ghost use Rattle.below.specs.Below.{nth};
+ghost use Rattle.corrections.specs.Algorithm.Sweep.{hitSlot, Spanned, Granted, Slotted};
 
 // A fragment from s to e at position x, with slot k: it covers column c, entered before the turn, and its slot is b.
 fn hit_slot(s: usize, e: usize, x: usize, k: usize, c: usize, turn: usize, b: usize) -> bool
@@ -36,7 +37,7 @@ fn is_used(
     b: usize,
 ) -> bool
     requires { ⌜ Matrix m n (now cells) × Spanned (matrixGrid m n (now cells)) (now starts) (now ends) × (length (now slots) ≡ 128) ⌝ }
-    ensures { λ r. ⌜ r ≡ used (startOf (matrixGrid m n (now (cells .entry)))) (covers (matrixGrid m n (now (cells .entry)))) m c turn (nth (now (slots .entry))) b ⌝ }
+    ensures { λ r. ⌜ r ≡ used (firstColumn (matrixGrid m n (now (cells .entry)))) (covers (matrixGrid m n (now (cells .entry)))) m c turn (nth (now (slots .entry))) b ⌝ }
 {
     let mut x = 0;
     while x < m {
@@ -60,7 +61,7 @@ fn free_slot(
     turn: usize,
 ) -> usize
     requires { ⌜ Matrix m n (now cells) × Spanned (matrixGrid m n (now cells)) (now starts) (now ends) × (length (now slots) ≡ 128) ⌝ }
-    ensures { λ r. ⌜ r ≡ freeSlot (startOf (matrixGrid m n (now (cells .entry)))) (covers (matrixGrid m n (now (cells .entry)))) m 8 c turn (nth (now (slots .entry))) ⌝ }
+    ensures { λ r. ⌜ r ≡ freeSlot (firstColumn (matrixGrid m n (now (cells .entry)))) (covers (matrixGrid m n (now (cells .entry)))) m 8 c turn (nth (now (slots .entry))) ⌝ }
 {
     let mut b = 0;
     while b < 8 {

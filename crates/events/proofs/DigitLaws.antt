@@ -7,7 +7,7 @@ use native.Mathlib.Decide.{decLt}
 use native.Mathlib.Omega.{arith}
 use lib.Arith.{digits-lt, digits-div, digits-mod}
 use lib.Pow.{pow-add}
-use Rattle.events.specs.Slots.{digit, withDigit}
+use Rattle.events.specs.Algorithm.Slots.{digit, withDigit}
 
 module _ (k : ℕ) (positive : 0 < k) where
   pub power : (b : ℕ) → 0 < k ^ b

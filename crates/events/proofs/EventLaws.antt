@@ -8,9 +8,9 @@ use Prim.Native.Nat.{ℕ, suc, _+_, _*_, _-_, _≤_, _<_, zero-le}
 use native.Mathlib.Nat.{le-trans, le-of-eq, add-le-add}
 use native.Mathlib.Omega.{arith}
 use lib.Dec.{T}
-use Rattle.ranks.specs.Weight.{top}
-use Rattle.events.specs.Weights.{columnWeight}
-use Rattle.events.specs.Events.{Event, enter, charge, withValue, leastWeight}
+use Rattle.ranks.specs.Algorithm.Weight.{top}
+use Rattle.events.specs.Algorithm.Weights.{columnWeight}
+use Rattle.events.specs.Algorithm.Events.{Event, enter, charge, withValue, leastEventWeight}
 use Rattle.events.proofs.LeastLaws.{leastTo-le, leastTo-at, leastTo-ext, value-same, value-other, each}
 
 -- ---- lists of events
@@ -56,8 +56,8 @@ InClasses k t = (x : ℕ) → (1 ≤ t x) × (t x ≤ k)
 module _ (k : ℕ) (some : 0 < k) (onSide : ℕ → ℕ → ℕ) (atColumn : ℕ → (ℕ → ℕ) → ℕ) (n : ℕ) (cover : ℕ → ℕ → Bool) (looks : Local n cover atColumn) where
   -- locality: the least weight looks only at the sides of the live fragments
   pub least-local : (es : List Event) → Ordered cover n es → (s t : ℕ → ℕ) → ((x : ℕ) → Live cover x es → s x ≡ t x)
-      → leastWeight k onSide atColumn es s ≡ leastWeight k onSide atColumn es t
-  unfolding leastWeight Live Ordered
+      → leastEventWeight k onSide atColumn es s ≡ leastEventWeight k onSide atColumn es t
+  unfolding leastEventWeight Live Ordered
   least-local [] o s t h = refl
   least-local (enter f ∷ es) o s t h =
       leastTo-ext (k - 1) _ _ λ d l. ap (λ (v : ℕ). onSide f (suc d) + v)
@@ -69,18 +69,18 @@ module _ (k : ℕ) (some : 0 < k) (onSide : ℕ → ℕ → ℕ) (atColumn : ℕ
 
   -- no sides weigh less
   pub least-lower : (es : List Event) → Ordered cover n es → (s t : ℕ → ℕ) → InClasses k t → ((x : ℕ) → Live cover x es → s x ≡ t x)
-      → leastWeight k onSide atColumn es s ≤ totalWeight onSide atColumn es t
-  unfolding leastWeight totalWeight Live Ordered
+      → leastEventWeight k onSide atColumn es s ≤ totalWeight onSide atColumn es t
+  unfolding leastEventWeight totalWeight Live Ordered
   least-lower [] o s t r h = zero-le
   least-lower (enter f ∷ es) o s t r h =
       let d : ℕ = t f - 1 in
       let e : suc d ≡ t f = omega (arith, r f .0) in
-      let deeper : leastWeight k onSide atColumn es (withValue f (suc d) s) ≤ totalWeight onSide atColumn es t =
+      let deeper : leastEventWeight k onSide atColumn es (withValue f (suc d) s) ≤ totalWeight onSide atColumn es t =
       least-lower es (o .1) (withValue f (suc d) s) t r
       (each (λ x. Live cover x es → withValue f (suc d) s x ≡ t x) f
       (λ v. value-same f (suc d) s ∙ e)
       (λ x ne v. value-other f (suc d) s x ne ∙ h x (ne, v))) in
-      le-trans (leastTo-le (k - 1) (λ d. onSide f (suc d) + leastWeight k onSide atColumn es (withValue f (suc d) s)) d (omega (arith, r f .1)))
+      le-trans (leastTo-le (k - 1) (λ d. onSide f (suc d) + leastEventWeight k onSide atColumn es (withValue f (suc d) s)) d (omega (arith, r f .1)))
       (add-le-add (le-of-eq (ap (onSide f) e)) deeper)
   least-lower (charge c ∷ es) o s t r h =
       add-le-add (le-of-eq (looks .local c (o .0) s t (λ x v. h x (inl v)))) (least-lower es (o .2) s t r (λ x v. h x (inr v)))
@@ -88,15 +88,15 @@ module _ (k : ℕ) (some : 0 < k) (onSide : ℕ → ℕ → ℕ) (atColumn : ℕ
   -- some sides weigh the least, and leave the fragments that do not enter as they are
   pub record Best (es : List Event) (s : ℕ → ℕ) : Type 0 where
     pub sides : ℕ → ℕ
-    pub is : totalWeight onSide atColumn es sides ≡ leastWeight k onSide atColumn es s
+    pub is : totalWeight onSide atColumn es sides ≡ leastEventWeight k onSide atColumn es s
     pub stay : (x : ℕ) → Absent x es → sides x ≡ s x
     pub range : InClasses k sides
 
   pub best : (es : List Event) → Ordered cover n es → (s : ℕ → ℕ) → InClasses k s → Best es s
-  unfolding leastWeight totalWeight Absent Ordered
+  unfolding leastEventWeight totalWeight Absent Ordered
   best [] o s r = record { sides = s; is = refl; stay = λ x a. refl; range = r }
   best (enter f ∷ es) o s r =
-      let q = leastTo-at (k - 1) (λ d. onSide f (suc d) + leastWeight k onSide atColumn es (withValue f (suc d) s)) in
+      let q = leastTo-at (k - 1) (λ d. onSide f (suc d) + leastEventWeight k onSide atColumn es (withValue f (suc d) s)) in
       let d : ℕ = q .0 in
       let b = best es (o .1) (withValue f (suc d) s)
       (each (λ x. (1 ≤ withValue f (suc d) s x) × (withValue f (suc d) s x ≤ k)) f

@@ -10,19 +10,19 @@ use native.Mathlib.Decide.{ℕ-discrete, decLt}
 use native.Mathlib.Omega.{arith}
 use lib.ListN.{length, getD}
 use lib.Seq.{ext-getD}
-use Rattle.records.specs.Below.{if_then_else_, bit, sumBelow, tab, _==_}
-use Rattle.records.proofs.BelowLaws.{sum-ext, length-tab, getD-tab, if-true, if-false, eq-==, ne-isnt}
+use Rattle.below.specs.Below.{if_then_else_, bit, sumBelow, tab, _==_}
+use Rattle.below.proofs.BelowLaws.{sum-ext, length-tab, getD-tab, if-true, if-false, eq-==, ne-isnt}
 use Rattle.conflicts.specs.Choice.{marked, keepAll, firstLeast}
 use Rattle.conflicts.specs.Sides.{sideLists}
 use Rattle.conflicts.proofs.SideLaws.{kept-all, all-length, side-mem, sides-length, sides-at}
 use Rattle.ranks.specs.declared.rank.Rank.{Rank}
-use Rattle.ranks.specs.Weight.{top, place, placesOf, weight, digitAt}
-use Rattle.ranks.specs.Reading.{code, value}
+use Rattle.ranks.specs.Algorithm.Weight.{top, place, placesOf, weight, digitAt}
+use Rattle.ranks.specs.Algorithm.Reading.{code, value}
 use Rattle.ranks.proofs.WordLaws.{code-top, count-of, code-of}
 use Rattle.ranks.proofs.WeightLaws.{places-ext, places-top, places-digit}
 use Rattle.ranks.proofs.FirstLaws.{onSides, onSecond, lightest-sides}
-use Rattle.events.specs.Events.{leastWeight, allFirst, events}
-use Rattle.events.specs.Weights.{sideWeight, columnWeight, costOf}
+use Rattle.events.specs.Algorithm.Events.{leastEventWeight, allFirst, events}
+use Rattle.events.specs.Algorithm.Weights.{sideWeight, columnWeight, costOf}
 use Rattle.events.proofs.EventLaws.{Local, local-weight, InClasses, least-lower, Best, best}
 use Rattle.events.proofs.ColumnLaws.{Starts, absent-from, live-none, events-ordered}
 use Rattle.events.proofs.TotalLaws.{total-le, total-is}
@@ -64,7 +64,7 @@ two-again x lo hi = elim (ℕ-discrete x 2) [
 module _ (m n : ℕ) (start : ℕ → ℕ) (cover : ℕ → ℕ → Bool) (st : Starts m n start cover) (col : ℕ → (ℕ → ℕ) → ℕ) (looks : Local n cover col) where
   -- the least weight over all the events
   abbrev pub leastOf : ℕ
-  leastOf = leastWeight 2 sideWeight (columnWeight col) (events start m n) allFirst
+  leastOf = leastEventWeight 2 sideWeight (columnWeight col) (events start m n) allFirst
 
   -- ---- what given sides weigh
 

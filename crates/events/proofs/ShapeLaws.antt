@@ -6,12 +6,12 @@ use mathlib.Core.List.{List, [], _∷_}
 use Prim.Native.Nat.{ℕ, zero, suc, _+_, _*_, _≤_, _<_, zero-le}
 use native.Mathlib.Nat.{add-mul, mul-suc}
 use native.Mathlib.Omega.{arith}
-use Rattle.records.specs.Below.{if_then_else_, _==_}
-use Rattle.records.proofs.BelowLaws.{if-ind, if-true, if-false, ==-refl, ne-isnt, sum-zero}
-use Rattle.ranks.specs.Weight.{top, place, placesOf, weight}
+use Rattle.below.specs.Below.{if_then_else_, _==_}
+use Rattle.below.proofs.BelowLaws.{if-ind, if-true, if-false, ==-refl, ne-isnt, sum-zero}
+use Rattle.ranks.specs.Algorithm.Weight.{top, place, placesOf, weight}
 use Rattle.ranks.proofs.WeightLaws.{places-top}
-use Rattle.events.specs.Events.{Event, enter, charge, withValue, leastWeight, entering, eventsFrom, partOf}
-use Rattle.events.specs.Weights.{sideWeight, columnWeight}
+use Rattle.events.specs.Algorithm.Events.{Event, enter, charge, withValue, leastEventWeight, entering, eventsFrom, partOf}
+use Rattle.events.specs.Algorithm.Weights.{sideWeight, columnWeight}
 use Rattle.events.proofs.LeastLaws.{leastTo-at}
 use Rattle.events.proofs.EventLaws.{Absent, Ordered}
 use Rattle.events.proofs.TotalLaws.{sum-more}
@@ -93,11 +93,11 @@ module _ (m cap n : ℕ) (cover : ℕ → ℕ → Bool) (cost : ℕ → (ℕ →
     free = h .free;
   }
 
-  pub shaped : (es : List Event) → Ordered cover n es → Few m es → (s : ℕ → ℕ) → Shaped m cap es (leastWeight 2 sideWeight (columnWeight cost) es s)
-  unfolding leastWeight Ordered Few charges weight
+  pub shaped : (es : List Event) → Ordered cover n es → Few m es → (s : ℕ → ℕ) → Shaped m cap es (leastEventWeight 2 sideWeight (columnWeight cost) es s)
+  unfolding leastEventWeight Ordered Few charges weight
   shaped [] o w s = record { cost = 0; set = λ i. false; is = let p = places-none m in omega arith; few = zero-le; free = λ f a. refl }
   shaped (enter f ∷ es) o w s =
-      let rest : ℕ → ℕ = λ d. leastWeight 2 sideWeight (columnWeight cost) es (withValue f (suc d) s) in
+      let rest : ℕ → ℕ = λ d. leastEventWeight 2 sideWeight (columnWeight cost) es (withValue f (suc d) s) in
       let r = leastTo-at 1 (λ d. sideWeight f (suc d) + rest d) in
       let d : ℕ = r .0 in
       let here : d * place f ≡ sideWeight f (suc d) = ap (λ (x : ℕ). x * place f) (omega arith) in

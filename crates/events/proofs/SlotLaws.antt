@@ -7,9 +7,9 @@ use Prim.Native.Nat.{ℕ, zero, suc, _+_, _*_, _-_, _^_, _/_, _%_, _≤_, _<_, z
 use native.Mathlib.Nat.{add-mul, suc-mul, zero-div, zero-mod}
 use native.Mathlib.Omega.{arith}
 use lib.Dec.{T}
-use Rattle.ranks.specs.Tables.{Sweep}
-use Rattle.events.specs.Events.{Event, enter, charge, leastTo, withValue, leastWeight, allFirst, events, partOf}
-use Rattle.events.specs.Slots.{digit, withDigit, sidesAt, entered, Holds, Apart}
+use Rattle.ranks.specs.Algorithm.Tables.{Sweep}
+use Rattle.events.specs.Algorithm.Events.{Event, enter, charge, leastTo, withValue, leastEventWeight, allFirst, events, partOf}
+use Rattle.events.specs.Algorithm.Slots.{digit, withDigit, sidesAt, entered, HoldsEvents, Apart}
 use Rattle.events.proofs.LeastLaws.{leastTo-ext, value-same, value-other, each}
 use Rattle.events.proofs.EventLaws.{Live, Ordered, Local, least-local}
 use Rattle.events.proofs.ColumnLaws.{Starts, events-ordered, live-from, live-column}
@@ -67,20 +67,20 @@ module _ (k : ℕ) (some : 0 < k) where
   -- ---- what the table holds
 
   module _ (onSide : ℕ → ℕ → ℕ) (atColumn : ℕ → (ℕ → ℕ) → ℕ) (slot : ℕ → ℕ) (w : ℕ) where
-    pub holds-none : (v : ℕ → ℕ) → ((mask : ℕ) → mask < k ^ w → v mask ≡ 0) → Holds k onSide atColumn slot w [] v
-    unfolding leastWeight
+    pub holds-none : (v : ℕ → ℕ) → ((mask : ℕ) → mask < k ^ w → v mask ≡ 0) → HoldsEvents k onSide atColumn slot w [] v
+    unfolding leastEventWeight
     holds-none v h = record { holds = h }
 
-    pub holds-charge : (c : ℕ) (es : List Event) (v u : ℕ → ℕ) → Holds k onSide atColumn slot w es v
-        → ((mask : ℕ) → mask < k ^ w → u mask ≡ atColumn c (sidesAt k slot mask) + v mask) → Holds k onSide atColumn slot w (charge c ∷ es) u
-    unfolding leastWeight
+    pub holds-charge : (c : ℕ) (es : List Event) (v u : ℕ → ℕ) → HoldsEvents k onSide atColumn slot w es v
+        → ((mask : ℕ) → mask < k ^ w → u mask ≡ atColumn c (sidesAt k slot mask) + v mask) → HoldsEvents k onSide atColumn slot w (charge c ∷ es) u
+    unfolding leastEventWeight
     holds-charge c es v u h step = record { holds = λ mask lt. step mask lt ∙ ap (λ (x : ℕ). atColumn c (sidesAt k slot mask) + x) (h .holds mask lt) }
 
     module _ (n : ℕ) (cover : ℕ → ℕ → Bool) (looks : Local n cover atColumn) where
       pub holds-enter : (f : ℕ) (es : List Event) (v u : ℕ → ℕ) → Ordered cover n es → slot f < w
-          → ((x : ℕ) → Live cover x es → (x ≡ f → ⊥) → slot x ≡ slot f → ⊥) → Holds k onSide atColumn slot w es v
-          → ((mask : ℕ) → mask < k ^ w → u mask ≡ entered k (slot f) (onSide f) v mask) → Holds k onSide atColumn slot w (enter f ∷ es) u
-      unfolding leastWeight entered
+          → ((x : ℕ) → Live cover x es → (x ≡ f → ⊥) → slot x ≡ slot f → ⊥) → HoldsEvents k onSide atColumn slot w es v
+          → ((mask : ℕ) → mask < k ^ w → u mask ≡ entered k (slot f) (onSide f) v mask) → HoldsEvents k onSide atColumn slot w (enter f ∷ es) u
+      unfolding leastEventWeight entered
       holds-enter f es v u o fits apart h step = record {
         holds = λ mask lt. step mask lt ∙ leastTo-ext (k - 1) _ _ (λ d le.
             let few : d < k = omega arith in
@@ -93,8 +93,8 @@ module _ (k : ℕ) (some : 0 < k) where
       }
 
       -- after all the events the entry of mask 0 is the least weight of all
-      pub holds-end : (m : ℕ) (start : ℕ → ℕ) → Starts m n start cover → (v : ℕ → ℕ) → Holds k onSide atColumn slot w (events start m n) v
-          → v 0 ≡ leastWeight k onSide atColumn (events start m n) allFirst
+      pub holds-end : (m : ℕ) (start : ℕ → ℕ) → Starts m n start cover → (v : ℕ → ℕ) → HoldsEvents k onSide atColumn slot w (events start m n) v
+          → v 0 ≡ leastEventWeight k onSide atColumn (events start m n) allFirst
       holds-end m start st v h =
           h .holds 0 (power k some w)
           ∙ least-local k some onSide atColumn n cover looks (events start m n) (events-ordered m n start cover st) (sidesAt k slot 0) allFirst (λ x l. sides-none slot x)

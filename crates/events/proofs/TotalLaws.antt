@@ -7,9 +7,9 @@ use Prim.Native.Nat.{ℕ, zero, suc, _+_, _≤_, _<_, zero-le}
 use native.Mathlib.Nat.{le-refl}
 use native.Mathlib.Decide.{ℕ-discrete, decLt}
 use native.Mathlib.Omega.{arith}
-use Rattle.records.specs.Below.{if_then_else_, sumBelow, _==_, _<?_}
-use Rattle.records.proofs.BelowLaws.{sum-ext, sum-le, sum-add, sum-swap, if-ind, if-true, if-false, eq-==, ne-isnt, lt-<?, le-isnt, isnt-<?}
-use Rattle.events.specs.Events.{Event, enter, charge, entering, eventsFrom, events}
+use Rattle.below.specs.Below.{if_then_else_, sumBelow, _==_, _<?_}
+use Rattle.below.proofs.BelowLaws.{sum-ext, sum-le, sum-add, sum-swap, if-ind, if-true, if-false, eq-==, ne-isnt, lt-<?, le-isnt, isnt-<?}
+use Rattle.events.specs.Algorithm.Events.{Event, enter, charge, entering, eventsFrom, events}
 use Rattle.events.proofs.EventLaws.{totalWeight}
 
 -- ---- sums

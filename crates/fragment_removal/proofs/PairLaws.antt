@@ -9,20 +9,20 @@ use native.Mathlib.Numerals.{add-one}
 use native.Mathlib.Decide.{ℕ-discrete}
 use native.Mathlib.Omega.{arith}
 use lib.ListN.{length, replicate}
-use Rattle.records.specs.Below.{if_then_else_, bit, _<?_}
-use Rattle.records.proofs.BelowLaws.{if-ind, if-true, if-false, lt-<?, le-isnt, same-test, bit-marked, marked-bit}
+use Rattle.below.specs.Below.{if_then_else_, bit, _<?_}
+use Rattle.below.proofs.BelowLaws.{if-ind, if-true, if-false, lt-<?, le-isnt, same-test, bit-marked, marked-bit}
 use Rattle.conflicts.specs.Choice.{marked}
 use Rattle.conflicts.specs.Grid.{Grid}
 use Rattle.conflicts.specs.Minimality.{everything}
 use Rattle.ranks.specs.declared.rank.Rank.{Rank}
-use Rattle.ranks.specs.Weight.{top, place, placesOf, AtMost}
-use Rattle.ranks.specs.Reading.{code, value, SumFits}
-use Rattle.ranks.specs.Tables.{Sweep}
+use Rattle.ranks.specs.Algorithm.Weight.{top, place, placesOf, AtMost, removal}
+use Rattle.ranks.specs.Algorithm.Reading.{code, value, SumFits}
+use Rattle.ranks.specs.Algorithm.Tables.{Sweep, Cleared}
 use Rattle.ranks.proofs.WeightLaws.{places-top, atMost-more}
 use Rattle.ranks.proofs.TableLaws.{parts-small, sweep-none, zeros-at}
-use Rattle.fragment_removal.specs.Fragments.{start, Ordered, Begins, Cleared}
-use Rattle.fragment_removal.specs.Programme.{removal, stateReach, mayJoin, furthest, choose, withFragment, leastWeight}
-use Rattle.fragment_removal.specs.Pairs.{pairs, flat, Fits, Room, Rows, Made, Holds}
+use Rattle.fragment_removal.specs.Algorithm.Fragments.{start, Ordered, Begins}
+use Rattle.fragment_removal.specs.Algorithm.Programme.{stateReach, mayJoin, furthest, chooseFragment, withFragment, leastFragmentWeight}
+use Rattle.fragment_removal.specs.Algorithm.Pairs.{pairs, flat, Fits, FragmentRoom, Rows, Made, HoldsFragments}
 use Rattle.fragment_removal.proofs.SumLaws.{lastSum, last-first}
 use Rattle.fragment_removal.proofs.ProgrammeLaws.{one-removed, choose-small, programme-small}
 
@@ -52,7 +52,7 @@ sum-fits out b others few fits bh bl e m =
 
 -- the weight that the fragment makes has a count of 16 bits
 pub count-fits : (out r : Rank) (a b : Bool) {one two rest : ℕ} (others : ℕ) → out .count ≤ 1 → code out + others < top → r .high < 2 ^ 64 → r .low < 2 ^ 64
-    → value r ≡ choose a b (value out) one two rest → AtMost 127 others one → AtMost 127 others two → AtMost 127 others rest → r .count < 65536
+    → value r ≡ chooseFragment a b (value out) one two rest → AtMost 127 others one → AtMost 127 others two → AtMost 127 others rest → r .count < 65536
 count-fits out r a b others few fits hh hl e x y z =
     short (parts-small r hh hl e (choose-small a b (itself out few) x y z) fits .0)
   where
@@ -63,12 +63,12 @@ count-fits out r a b others few fits hh hl e x y z =
     short l = omega arith
 
 -- equal choices
-choose-same : {a a′ b b′ : Bool} {out out′ x x′ y y′ z z′ : ℕ} → a ≡ a′ → b ≡ b′ → out ≡ out′ → x ≡ x′ → y ≡ y′ → z ≡ z′ → choose a b out x y z ≡ choose a′ b′ out′ x′ y′ z′
+choose-same : {a a′ b b′ : Bool} {out out′ x x′ y y′ z z′ : ℕ} → a ≡ a′ → b ≡ b′ → out ≡ out′ → x ≡ x′ → y ≡ y′ → z ≡ z′ → chooseFragment a b out x y z ≡ chooseFragment a′ b′ out′ x′ y′ z′
 choose-same ea eb eo ex ey ez = rw (ea, eb, eo, ex, ey, ez)
 
 -- what the weights and tests of a place come to
 pub chosen-weight : (a b b′ : Bool) (out here : ℕ) {x y z two one gone best r : ℕ} → b ≡ b′ → gone ≡ out + here → best ≡ (if b then min gone two else gone) → r ≡ (if a then min best one else best)
-    → one ≡ x → two ≡ y → here ≡ z → r ≡ choose a b′ out x y z
+    → one ≡ x → two ≡ y → here ≡ z → r ≡ chooseFragment a b′ out x y z
 chosen-weight a b b′ out here e eg eb er ex ey ez = er ∙ rw (eb, eg, e, ex, ey, ez)
 
 -- a weight that may be taken, and one that may not
@@ -108,7 +108,7 @@ module _ {f old now : ℕ → ℕ} (h l : ℕ) (s : Sweep f old now (h * 129) (h
 
   -- what weight_at hands back is what the row is to hold
   pub row-weight : (may : ℕ → Bool) (reaches : ℕ → ℕ) (out i one : ℕ) (a : Bool) {r : ℕ} → h ≤ i → l ≤ i → i < 128 → one ≡ furthest reaches h i → a ≡ may h
-      → r ≡ choose a (may l) out (square now one l) (square now h (furthest reaches l i)) (square now h l) → r ≡ flat (withFragment may reaches out i (square old)) (h * 129 + l)
+      → r ≡ chooseFragment a (may l) out (square now one l) (square now h (furthest reaches l i)) (square now h l) → r ≡ flat (withFragment may reaches out i (square old)) (h * 129 + l)
   row-weight may reaches out i one a hi li small eo ea e =
       let x = ahead one l (subst (λ (z : ℕ). h ≤ z) (sym eo) (furthest-range reaches h i hi .0)) (le-refl l) in
       let y = ahead h (furthest reaches l i) (le-refl h) (furthest-range reaches l i li .0) in
@@ -116,7 +116,7 @@ module _ {f old now : ℕ → ℕ} (h l : ℕ) (s : Sweep f old now (h * 129) (h
       e ∙ choose-same {b = may l} {out = out} ea refl refl (x ∙ ap (λ (q : ℕ). square old q l) eo) y z ∙ sym (flat-at (withFragment may reaches out i (square old)) h l (omega arith))
 
   -- and there is room for it
-  pub row-fits : (reaches : ℕ → ℕ) (out : Rank) (i one : ℕ) → h ≤ i → l ≤ i → one ≡ furthest reaches h i → Room out h (i + 1) (square old)
+  pub row-fits : (reaches : ℕ → ℕ) (out : Rank) (i one : ℕ) → h ≤ i → l ≤ i → one ≡ furthest reaches h i → FragmentRoom out h (i + 1) (square old)
       → Fits out (square now one l) (square now h (furthest reaches l i)) (square now h l)
   row-fits reaches out i one hi li eo room =
       let hr = furthest-range reaches h i hi in
@@ -152,7 +152,7 @@ module _ (may : ℕ → Bool) (reaches : ℕ → ℕ) (out i : ℕ) (old now : �
   below-rows s q hs l = rows .rest s q (omega arith) (λ k. absurd (omega arith))
 
   -- the next row has room
-  pub rows-room : (r : Rank) → Room r 0 (i + 1) (square old) → Room r h (i + 1) (square now)
+  pub rows-room : (r : Rank) → FragmentRoom r 0 (i + 1) (square old) → FragmentRoom r h (i + 1) (square now)
   rows-room r room = record {
     others = room .others;
     few = room .few;
@@ -197,14 +197,14 @@ zeros-pairs before counts e h l = subst (λ (x : List ℕ). pairs x (replicate 1
 
 module _ (g : Grid) (order : ℕ → ℕ) where
   -- no fragment yet
-  pub holds-none : (v : ℕ → ℕ → ℕ) → ((h l : ℕ) → v h l ≡ 0) → Holds g order 0 v
-  unfolding leastWeight
+  pub holds-none : (v : ℕ → ℕ → ℕ) → ((h l : ℕ) → v h l ≡ 0) → HoldsFragments g order 0 v
+  unfolding leastFragmentWeight
   holds-none v zeros = record { holds = λ h l hh hl. zeros h l }
 
-  module _ (k i : ℕ) (v : ℕ → ℕ → ℕ) (k-in : k < g .m) (is : i ≡ g .m - 1 - k) (held : Holds g order k v) where
+  module _ (k i : ℕ) (v : ℕ → ℕ → ℕ) (k-in : k < g .m) (is : i ≡ g .m - 1 - k) (held : HoldsFragments g order k v) where
     opened : (h l : ℕ) → i ≡ g .m - suc k
-        → withFragment (λ s. mayJoin g order s i) (stateReach g order) (removal (order i)) i (leastWeight g order k) h l ≡ leastWeight g order (suc k) h l
-    unfolding leastWeight
+        → withFragment (λ s. mayJoin g order s i) (stateReach g order) (removal (order i)) i (leastFragmentWeight g order k) h l ≡ leastFragmentWeight g order (suc k) h l
+    unfolding leastFragmentWeight
     opened h l e = rw e
 
     -- the places of the fragments from i on
@@ -219,7 +219,7 @@ module _ (g : Grid) (order : ℕ → ℕ) where
         omega arith
 
     -- room for the next removal
-    pub holds-room : g .m ≤ 128 → Ordered (g .m) (start g) order → (out : Rank) → out .high < 2 ^ 64 → out .low < 2 ^ 64 → value out ≡ removal (order i) → Room out 0 (i + 1) v
+    pub holds-room : g .m ≤ 128 → Ordered (g .m) (start g) order → (out : Rank) → out .high < 2 ^ 64 → out .low < 2 ^ 64 → value out ≡ removal (order i) → FragmentRoom out 0 (i + 1) v
     holds-room small o out hh hl e =
         let others = lastSum (λ j. place (order j)) (g .m) k in
         let f = places-fit small o in
@@ -239,19 +239,19 @@ module _ (g : Grid) (order : ℕ → ℕ) where
 
     -- one fragment more
     pub holds-more : (may : ℕ → Bool) (reaches : ℕ → ℕ) (out : ℕ) (w : ℕ → ℕ → ℕ) → ((s : ℕ) → s < i + 1 → may s ≡ mayJoin g order s i)
-        → ((s : ℕ) → s < g .m + 1 → reaches s ≡ stateReach g order s) → out ≡ removal (order i) → Made (withFragment may reaches out i v) w (i + 1) → Holds g order (k + 1) w
+        → ((s : ℕ) → s < g .m + 1 → reaches s ≡ stateReach g order s) → out ≡ removal (order i) → Made (withFragment may reaches out i v) w (i + 1) → HoldsFragments g order (k + 1) w
     holds-more may reaches out w joins reach eo made = record { holds = holds }
       where
         step : (s : ℕ) → s ≤ i → furthest reaches s i ≡ furthest (stateReach g order) s i
         step s l = ap₂ (λ (x y : ℕ). if x <? y then i + 1 else s) (reach s (omega arith)) (reach (i + 1) (omega arith))
 
-        holds : (h l : ℕ) → h ≤ g .m - (k + 1) → l ≤ g .m - (k + 1) → w h l ≡ leastWeight g order (k + 1) h l
+        holds : (h l : ℕ) → h ≤ g .m - (k + 1) → l ≤ g .m - (k + 1) → w h l ≡ leastFragmentWeight g order (k + 1) h l
         holds h l hh hl =
             let hr = furthest-range reaches h i (omega arith) in
             let lr = furthest-range reaches l i (omega arith) in
             made .made h l (omega arith) (omega arith)
             ∙ choose-same (joins h (omega arith)) (joins l (omega arith)) eo
-            (held .holds (furthest reaches h i) l (omega arith) (omega arith) ∙ ap (λ (x : ℕ). leastWeight g order k x l) (step h (omega arith)))
-            (held .holds h (furthest reaches l i) (omega arith) (omega arith) ∙ ap (leastWeight g order k h) (step l (omega arith)))
+            (held .holds (furthest reaches h i) l (omega arith) (omega arith) ∙ ap (λ (x : ℕ). leastFragmentWeight g order k x l) (step h (omega arith)))
+            (held .holds h (furthest reaches l i) (omega arith) (omega arith) ∙ ap (leastFragmentWeight g order k h) (step l (omega arith)))
             (held .holds h l (omega arith) (omega arith))
             ∙ opened h l (omega arith) ∙ rw (add-one k)

@@ -7,18 +7,19 @@ use Prim.Native.Nat.{ℕ, zero, suc, _+_, _*_, _-_, _≤_, _<_}
 use native.Mathlib.Omega.{arith}
 use lib.ListN.{length, getD, take, drop, replicate, length-drop, length-replicate, getD-replicate}
 use lib.Seq.{getD-take, getD-drop, length-take-le, ext-getD}
-use Rattle.records.specs.Below.{if_then_else_, bit, isnt, firstBelow, endBelow, tab, _==_, _<?_, _and_}
+use Rattle.below.specs.Below.{if_then_else_, bit, isnt, firstBelow, endBelow, tab, _==_, _<?_, _and_}
 use Rattle.records.specs.Record.{isCall}
 use Rattle.records.specs.Writing.{callsStart, callsEnd, codesOf}
-use Rattle.records.proofs.BelowLaws.{any-ext, is-true, length-tab, getD-tab}
+use Rattle.below.proofs.BelowLaws.{any-ext, is-true, length-tab, getD-tab}
 use Rattle.records.proofs.ExtentLaws.{endBelow-le}
-use Rattle.records.proofs.ScanLaws.{start-le-end}
+use Rattle.writing.proofs.ScanLaws.{start-le-end}
 use Rattle.conflicts.specs.Choice.{marked, keepAll}
 use Rattle.conflicts.specs.Grid.{Grid, agree, conflict, conflictOn, conflictOnKept, rowsConflict, matrixGrid}
 use Rattle.conflicts.proofs.SideLaws.{kept-all, all-length}
 use Rattle.conflicts.proofs.GridLaws.{rows-conflict}
-use Rattle.fragment_removal.specs.Fragments.{start, reach, Cleared}
-use Rattle.fragment_removal.specs.Programme.{stateReach, mayJoin}
+use Rattle.fragment_removal.specs.Algorithm.Fragments.{start, reach}
+use Rattle.ranks.specs.Algorithm.Tables.{Cleared}
+use Rattle.fragment_removal.specs.Algorithm.Programme.{stateReach, mayJoin}
 
 -- ---- a row
 

@@ -1,15 +1,15 @@
 // What the programme asks of the fragments of a cell matrix, 128 cells to a fragment: starts, reaches and agreement (paper 001, section 5.2).
 use conflicts::fragments_conflict;
-use records::calls_end;
-use records::calls_start;
+use writing::calls_end;
+use writing::calls_start;
 ghost use mathlib.Core.Path.{_≡_};
 ghost use Prim.Native.Nat.{ℕ, _+_, _<_, _≤_};
 ghost use lib.ListN.{length};
-ghost use Rattle.records.specs.Below.{bit};
+ghost use Rattle.below.specs.Below.{bit};
 ghost use Rattle.conflicts.specs.Grid.{matrixGrid, conflict};
-ghost use Rattle.fragment_removal.specs.Fragments.{start, reach, Begins, Positions, entries};
-ghost use Rattle.conflicts.specs.Matrix.{Matrix};
-ghost use Rattle.fragment_removal.specs.Programme.{stateReach, mayJoin};
+ghost use Rattle.fragment_removal.specs.Algorithm.Fragments.{start, reach, Begins, Positions, entries};
+ghost use Rattle.matrix.specs.Algorithm.Matrix.{Matrix};
+ghost use Rattle.fragment_removal.specs.Algorithm.Programme.{stateReach, mayJoin};
 
 // A number of a byte.
 pub(crate) fn wide(x: u8) -> usize

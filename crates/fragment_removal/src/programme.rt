@@ -5,17 +5,17 @@ use ranks::table;
 ghost use mathlib.Core.Path.{_≡_};
 ghost use Prim.Native.Nat.{_+_, _*_, _-_, _<_, _≤_, min};
 ghost use lib.ListN.{length, replicate};
-ghost use Rattle.records.specs.Below.{if_then_else_, tab};
+ghost use Rattle.below.specs.Below.{if_then_else_, tab};
 ghost use Rattle.conflicts.specs.Choice.{marked, zeros};
 ghost use Rattle.conflicts.specs.Grid.{matrixGrid};
 ghost use Rattle.conflicts.specs.Removal.{fragmentKeepMarks};
-ghost use Rattle.ranks.specs.Weight.{digitAt};
-ghost use Rattle.ranks.specs.Reading.{code, value};
-ghost use Rattle.ranks.specs.Tables.{at, Inside, Sweep};
-ghost use Rattle.fragment_removal.specs.Fragments.{Cleared, entries};
-ghost use Rattle.conflicts.specs.Matrix.{Gapless};
-ghost use Rattle.fragment_removal.specs.Programme.{furthest, choose, withFragment};
-ghost use Rattle.fragment_removal.specs.Pairs.{pairs, flat, Prepared, Sized, Fits, Room, Made, Holds};
+ghost use Rattle.ranks.specs.Algorithm.Weight.{digitAt};
+ghost use Rattle.ranks.specs.Algorithm.Reading.{code, value};
+ghost use Rattle.ranks.specs.Algorithm.Tables.{at, Inside, Sweep, Cleared};
+ghost use Rattle.fragment_removal.specs.Algorithm.Fragments.{entries};
+ghost use Rattle.matrix.specs.Algorithm.Matrix.{Gapless};
+ghost use Rattle.fragment_removal.specs.Algorithm.Programme.{furthest, chooseFragment, withFragment};
+ghost use Rattle.fragment_removal.specs.Algorithm.Pairs.{pairs, flat, Prepared, PairPlaces, Fits, FragmentRoom, Made, HoldsFragments};
 
 // The state of a side once the fragment at place i has joined it.
 fn furthest_of(reaches: &[u8], s: usize, i: usize) -> usize
@@ -62,9 +62,9 @@ fn weight_at(
     one: usize,
     may: bool,
 ) -> Rank
-    requires { ⌜ Sized (now counts) (now highs) (now lows) × (length (now agrees) ≡ 129) × (length (now reaches) ≡ 129) × (h ≤ i) × (l ≤ i) × (i < 128) × (one ≤ i + 1)
+    requires { ⌜ PairPlaces (now counts) (now highs) (now lows) × (length (now agrees) ≡ 129) × (length (now reaches) ≡ 129) × (h ≤ i) × (l ≤ i) × (i < 128) × (one ≤ i + 1)
         × Fits out (pairs (now counts) (now highs) (now lows) one l) (pairs (now counts) (now highs) (now lows) h (furthest (entries (now reaches)) l i)) (pairs (now counts) (now highs) (now lows) h l) ⌝ }
-    ensures { λ r. ⌜ (value r ≡ choose may (marked (now (agrees .entry)) l) (value out) (pairs (now (counts .entry)) (now (highs .entry)) (now (lows .entry)) one l)
+    ensures { λ r. ⌜ (value r ≡ chooseFragment may (marked (now (agrees .entry)) l) (value out) (pairs (now (counts .entry)) (now (highs .entry)) (now (lows .entry)) one l)
         (pairs (now (counts .entry)) (now (highs .entry)) (now (lows .entry)) h (furthest (entries (now (reaches .entry))) l i)) (pairs (now (counts .entry)) (now (highs .entry)) (now (lows .entry)) h l))
         × (r .count < 65536) ⌝ }
 {
@@ -87,8 +87,8 @@ fn row(
     i: usize,
     h: usize,
 )
-    requires { ⌜ Sized (now counts) (now highs) (now lows) × (length (now agrees) ≡ 129) × (length (now reaches) ≡ 129) × (h ≤ i) × (i < 128)
-        × Room out h (i + 1) (pairs (now counts) (now highs) (now lows)) ⌝ }
+    requires { ⌜ PairPlaces (now counts) (now highs) (now lows) × (length (now agrees) ≡ 129) × (length (now reaches) ≡ 129) × (h ≤ i) × (i < 128)
+        × FragmentRoom out h (i + 1) (pairs (now counts) (now highs) (now lows)) ⌝ }
     ensures { λ _. ⌜ Sweep (flat (withFragment (marked (now (agrees .entry))) (entries (now (reaches .entry))) (value out) i (pairs (now (counts .entry)) (now (highs .entry)) (now (lows .entry)))))
         (at (now (counts .entry)) (now (highs .entry)) (now (lows .entry))) (at (now (counts .exit)) (now (highs .exit)) (now (lows .exit))) (h * 129) (h * 129 + (i + 1)) ⌝ }
 {
@@ -114,8 +114,8 @@ fn layer(
     out: Rank,
     i: usize,
 )
-    requires { ⌜ Sized (now counts) (now highs) (now lows) × (length (now agrees) ≡ 129) × (length (now reaches) ≡ 129) × (i < 128)
-        × Room out 0 (i + 1) (pairs (now counts) (now highs) (now lows)) ⌝ }
+    requires { ⌜ PairPlaces (now counts) (now highs) (now lows) × (length (now agrees) ≡ 129) × (length (now reaches) ≡ 129) × (i < 128)
+        × FragmentRoom out 0 (i + 1) (pairs (now counts) (now highs) (now lows)) ⌝ }
     ensures { λ _. ⌜ Made (withFragment (marked (now (agrees .entry))) (entries (now (reaches .entry))) (value out) i (pairs (now (counts .entry)) (now (highs .entry)) (now (lows .entry))))
         (pairs (now (counts .exit)) (now (highs .exit)) (now (lows .exit))) (i + 1) ⌝ }
 {
@@ -139,9 +139,9 @@ fn extend(
     lows: &mut [u64],
     k: usize,
 )
-    requires { ⌜ Prepared m n (now cells) (now order) (now reaches) × (k < m) × Sized (now counts) (now highs) (now lows)
-        × Holds (matrixGrid m n (now cells)) (entries (now order)) k (pairs (now counts) (now highs) (now lows)) ⌝ }
-    ensures { λ _. ⌜ Holds (matrixGrid m n (now (cells .entry))) (entries (now (order .entry))) (k + 1) (pairs (now (counts .exit)) (now (highs .exit)) (now (lows .exit))) ⌝ }
+    requires { ⌜ Prepared m n (now cells) (now order) (now reaches) × (k < m) × PairPlaces (now counts) (now highs) (now lows)
+        × HoldsFragments (matrixGrid m n (now cells)) (entries (now order)) k (pairs (now counts) (now highs) (now lows)) ⌝ }
+    ensures { λ _. ⌜ HoldsFragments (matrixGrid m n (now (cells .entry))) (entries (now (order .entry))) (k + 1) (pairs (now (counts .exit)) (now (highs .exit)) (now (lows .exit))) ⌝ }
 {
     let i = m - 1 - k;
     let mut agrees = [0u8; 129];
@@ -162,9 +162,9 @@ fn suffixes(
     highs: &mut [u64],
     lows: &mut [u64],
 )
-    requires { ⌜ Prepared m n (now cells) (now order) (now reaches) × Sized (now counts) (now highs) (now lows)
-        × Holds (matrixGrid m n (now cells)) (entries (now order)) 0 (pairs (now counts) (now highs) (now lows)) ⌝ }
-    ensures { λ _. ⌜ Holds (matrixGrid m n (now (cells .entry))) (entries (now (order .entry))) m (pairs (now (counts .exit)) (now (highs .exit)) (now (lows .exit))) ⌝ }
+    requires { ⌜ Prepared m n (now cells) (now order) (now reaches) × PairPlaces (now counts) (now highs) (now lows)
+        × HoldsFragments (matrixGrid m n (now cells)) (entries (now order)) 0 (pairs (now counts) (now highs) (now lows)) ⌝ }
+    ensures { λ _. ⌜ HoldsFragments (matrixGrid m n (now (cells .entry))) (entries (now (order .entry))) m (pairs (now (counts .exit)) (now (highs .exit)) (now (lows .exit))) ⌝ }
 {
     let mut k = 0;
     while k < m {
@@ -185,17 +185,6 @@ fn decode(r: Rank, m: usize, keep: &mut [u8])
     }
 }
 
-// Zeros over a whole buffer.
-fn clear(work: &mut [u16])
-    ensures { λ _. ⌜ Cleared (now (work .entry)) (now (work .exit)) ⌝ }
-{
-    let mut i = 0;
-    while i < work.len() {
-        work[i] = 0;
-        i += 1;
-    }
-}
-
 // The keep marks of the least removal along an order by start, and how many fragments it removes.
 pub(crate) fn least(
     m: usize,
@@ -212,10 +201,10 @@ pub(crate) fn least(
 {
     let mut highs = [0u64; 16641];
     let mut lows = [0u64; 16641];
-    clear(work);
+    table::clear(work);
     suffixes(m, n, cells, order, reaches, work, &mut highs, &mut lows);
     let r = table::get(work, &highs, &lows, 0);
     decode(r, m, keep);
-    clear(work);
+    table::clear(work); // it is handed back all zero
     r.count as usize
 }

@@ -9,14 +9,14 @@ use native.Mathlib.Nat.{mul-comm, mul-le-mul, suc-mul, le-refl, lt-of-le-of-lt}
 use native.Mathlib.Omega.{arith}
 use lib.Arith.{digits-div, digits-mod}
 use lib.ListN.{length}
-use Rattle.records.specs.Below.{if_then_else_, _<?_, concat, tab, countBelow, sumBelow}
+use Rattle.below.specs.Below.{if_then_else_, _<?_, concat, tab, countBelow, sumBelow}
 use Rattle.records.specs.Table.{fragments, partStart, position}
 use Rattle.records.specs.declared.Outcome.{Outcome}
 use Rattle.records.specs.declared.Outcome.the-variants.{Refused}
 use Rattle.records.specs.Outcome.{Verdict, accepted, refused, outcomeOf}
 use Rattle.records.specs.Rules.{Rule, rule, decide, recordRules, tableRules, sizeRules}
-use Rattle.records.proofs.BelowLaws.{if-true, if-false, lt-<?, le-isnt, count-bound}
-use Rattle.records.proofs.MemberLaws.{concat-at, tab-at}
+use Rattle.below.proofs.BelowLaws.{if-true, if-false, lt-<?, le-isnt, count-bound}
+use Rattle.below.proofs.MemberLaws.{concat-at, tab-at}
 use Rattle.records.proofs.RuleLaws.{decide-append, decide-accepted, decide-refused}
 use Rattle.records.proofs.AcceptedLaws.{few-columns, few-fragments}
 use Rattle.conflicts.specs.Choice.{zeros, keepAll}
@@ -24,10 +24,10 @@ use Rattle.conflicts.specs.Grid.{Grid, gridOf, depth}
 use Rattle.conflicts.specs.Sides.{errorFree}
 use Rattle.conflicts.specs.Removal.{snpKeepMarks, fragmentKeepMarks}
 use Rattle.conflicts.specs.Corrections.{changedCells, cellCount, differs}
-use Rattle.conflicts.specs.Services.{workRules, lengthRule, depthRules, packSizeRules, fragmentRules, unpackRules, packRules, checkRules, removalRules, correctionRules, unpackLeaves, packLeaves, findLeaves, checkLeaves, snpRemovalLeaves, fragmentRemovalLeaves, correctionsLeaves}
+use Rattle.conflicts.specs.Services.{workRules, lengthRule, depthRules, packSizeRules, fragmentRules, unpackRules, packRules, checkRules, removalRules, correctionRules, unpackLeaves, packLeaves, findLeaves, checkLeaves, snpRemovalLeaves, fragmentRemovalLeaves, correctionsLeaves, lentStages, correctionStages}
 use Rattle.conflicts.specs.Host.{hostNumber, hostRead, HostFits}
 use Rattle.conflicts.proofs.Minimality.{snp-in, fragments-in}
-use Rattle.services.proofs.SizeLaws.{pack-m}
+use Rattle.packing.proofs.SizeLaws.{pack-m}
 
 -- ---- the encoding
 
@@ -161,7 +161,7 @@ module _ {base : ℕ} (wide : 128 < base) where
 
   -- S's and F's, of any count
   removal-fits : (n : ℕ) (table answer work : List ℕ) (count : ℕ) → (n ≤ 128 → fragments table ≤ 128 → count < base) → HostFits base (decide (removalRules n table answer work) (accepted count))
-  unfolding removalRules
+  unfolding removalRules lentStages
   removal-fits n table answer work count bound = sized-fits n table _ count λ hn hm.
       (stage-more _ _ (work-named work) (stage-more _ _ (length-named answer _ _ none-named) (records-named n table hm)), bound hn hm)
 
@@ -217,11 +217,12 @@ fragment-fits n table answer work = removal-fits wide-host n table answer work _
     let e = fragments-in (gridOf n table) in let h = zeros-le (fragmentKeepMarks (gridOf n table)) in omega arith
 
 pub corrections-fits : (n : ℕ) (table answer output work : List ℕ) → HostFits 4294967296 (correctionsLeaves n table answer output work .outcome)
-unfolding correctionsLeaves correctionRules gridOf
+unfolding correctionsLeaves correctionRules correctionStages lentStages gridOf
 corrections-fits n table answer output work = sized-fits wide-host n table _ _ λ hn hm. (
   stage-more _ _ (work-named wide-host work)
-      (stage-more _ _ (length-named wide-host answer _ _ (length-named wide-host output _ _ none-named))
-      (stage-more _ _ (table-named wide-host n table hm) (stage-more _ _ (depth-named wide-host (gridOf n table) hn) (no-stage wide-host)))),
+      (stage-more _ _ (length-named wide-host answer _ _ none-named)
+      (stage-more _ _ (length-named wide-host output _ _ none-named)
+      (stage-more _ _ (table-named wide-host n table hm) (stage-more _ _ (depth-named wide-host (gridOf n table) hn) (no-stage wide-host))))),
   lt-of-le-of-lt (changed-le (gridOf n table) _) (lt-of-le-of-lt (mul-le-mul hm hn) (omega arith)),
 )
 

@@ -4,14 +4,14 @@ ghost use Prim.Native.Nat.{_≤_};
 ghost use Rattle.records.specs.Outcome.{outcomeOf};
 ghost use Rattle.conflicts.specs.Services.{unpackLeaves, packLeaves, findLeaves, checkLeaves, snpRemovalLeaves, fragmentRemovalLeaves, correctionsLeaves};
 ghost use Rattle.conflicts.specs.Host.{hostNumber, hostCode, hostOutcome, hostRead, HostFits};
+use least_sets::least_corrections;
+use least_sets::least_fragment_removal;
+use least_sets::least_snp_removal;
+use packing::pack;
+use packing::unpack;
 use records::Outcome;
 use records::position_of;
-use services::check;
-use services::least_corrections;
-use services::least_fragment_removal;
-use services::least_snp_removal;
-use services::pack;
-use services::unpack;
+use verdicts::check;
 
 // A count as it is, a refusal as base × number + place.
 fn host_number(base: u64, outcome: Outcome) -> u64

@@ -3,14 +3,16 @@
 use mathlib.Core.Path.{_≡_, refl, sym, ap, subst, _∙_}
 use mathlib.Core.List.{List, [], _∷_, _++_, append-nil, append-assoc}
 use Prim.Native.Nat.{ℕ, zero, suc, _+_, _<_}
+use Prim.Native.Char.{Char, code}
 use native.Mathlib.Nat.{add-zero, not-suc-le-zero}
 use native.Mathlib.Numerals.{add-one}
 use native.Mathlib.Omega.{arith}
 use lib.ListN.{length, getD, take, set, length-append, length-set}
 use lib.Seq.{take-suc, take-suc-set}
-use Rattle.records.specs.Below.{tab, tabFrom}
-use Rattle.records.proofs.BelowLaws.{length-tab}
-use Rattle.listing.specs.Appended.{Appended}
+use Rattle.below.specs.Below.{tab, tabFrom}
+use Rattle.below.proofs.BelowLaws.{length-tab}
+use Rattle.listing.specs.Algorithm.Appended.{Appended}
+use Rattle.below.specs.Text.{ascii}
 use Rattle.listing.specs.Listing.{led, joined, field}
 
 infixr 20 _⨾_
@@ -48,18 +50,18 @@ module _ {ℓ} {A : Type ℓ} where
       let z : 0 + i ≡ i = omega arith in
       rw add-one (snoc-from f 0 i ∙ ap (λ (j : ℕ). tabFrom 0 i f ++ (f j ∷ [])) z)
 
-pub led-append : (separator : ℕ) (us vs : List (List ℕ)) → led separator (us ++ vs) ≡ led separator us ++ led separator vs
+pub led-append : (separator : Char) (us vs : List (List ℕ)) → led separator (us ++ vs) ≡ led separator us ++ led separator vs
 unfolding led
 led-append separator [] vs = refl
 led-append separator (u ∷ us) vs = rw (led-append separator us vs, append-assoc)
 
 -- one word more
-pub joined-more : (separator : ℕ) (f : ℕ → List ℕ) (i : ℕ) → 0 < i → joined separator (tab i f) ++ (separator ∷ f i) ≡ joined separator (tab (i + 1) f)
+pub joined-more : (separator : Char) (f : ℕ → List ℕ) (i : ℕ) → 0 < i → joined separator (tab i f) ++ (code separator ∷ f i) ≡ joined separator (tab (i + 1) f)
 unfolding tab tabFrom joined led
 joined-more separator f zero h = absurd (not-suc-le-zero h)
 joined-more separator f (suc j) h =
-    append-assoc (f 0) (led separator (tabFrom 1 j f)) (separator ∷ f (suc j))
-    ∙ sym (ap (joined separator) (tab-more f (suc j)) ∙ ap (λ (t : List ℕ). f 0 ++ t) (led-append separator (tabFrom 1 j f) (f (suc j) ∷ []) ∙ ap (λ (t : List ℕ). led separator (tabFrom 1 j f) ++ (separator ∷ t)) (append-nil (f (suc j)))))
+    append-assoc (f 0) (led separator (tabFrom 1 j f)) (code separator ∷ f (suc j))
+    ∙ sym (ap (joined separator) (tab-more f (suc j)) ∙ ap (λ (t : List ℕ). f 0 ++ t) (led-append separator (tabFrom 1 j f) (f (suc j) ∷ []) ∙ ap (λ (t : List ℕ). led separator (tabFrom 1 j f) ++ (code separator ∷ t)) (append-nil (f (suc j)))))
 
 -- ---- fields
 
@@ -70,19 +72,19 @@ field-some [] h = absurd (not-suc-le-zero h)
 field-some (b ∷ bs) h = refl
 
 -- signs, by how many there are
-pub signs-none : (count : ℕ) (f : ℕ → ℕ) → count ≡ 0 → 46 ∷ [] ≡ field (tab count f)
-unfolding tab tabFrom field
+pub signs-none : (count : ℕ) (f : ℕ → ℕ) → count ≡ 0 → code "." ∷ [] ≡ field (tab count f)
+unfolding tab tabFrom field ascii
 signs-none count f e = rw e
 
 pub signs-some : (count : ℕ) (f : ℕ → ℕ) → (count ≡ 0 → ⊥) → tab count f ≡ field (tab count f)
 signs-some count f h = field-some (tab count f) (rw length-tab (omega arith))
 
 -- words, by how many there are
-pub words-none : (separator count : ℕ) (f : ℕ → List ℕ) → count ≡ 0 → 46 ∷ [] ≡ field (joined separator (tab count f))
-unfolding tab tabFrom joined field
+pub words-none : (separator : Char) (count : ℕ) (f : ℕ → List ℕ) → count ≡ 0 → code "." ∷ [] ≡ field (joined separator (tab count f))
+unfolding tab tabFrom joined field ascii
 words-none separator count f e = rw e
 
-pub words-some : (separator count : ℕ) (f : ℕ → List ℕ) → (count ≡ 0 → ⊥) → 0 < length (f 0) → joined separator (tab count f) ≡ field (joined separator (tab count f))
+pub words-some : (separator : Char) (count : ℕ) (f : ℕ → List ℕ) → (count ≡ 0 → ⊥) → 0 < length (f 0) → joined separator (tab count f) ≡ field (joined separator (tab count f))
 unfolding tab tabFrom joined
 words-some separator zero f h some = absurd (h refl)
 words-some separator (suc k) f h some = field-some _ (rw length-append (omega arith))
@@ -96,7 +98,7 @@ pub as-text : {s t : List ℕ} {at p : ℕ} {l l1 : List ℕ} → s ≡ t → Ap
 as-text {s} {t} {at} {p} {l} {l1} e a = subst (λ (x : List ℕ). Appended x at l p l1) e a
 
 -- a first word by itself
-pub joined-one : (separator : ℕ) (f : ℕ → List ℕ) → f 0 ≡ joined separator (tab 1 f)
+pub joined-one : (separator : Char) (f : ℕ → List ℕ) → f 0 ≡ joined separator (tab 1 f)
 unfolding joined led tab tabFrom
 joined-one separator f = rw append-nil
 

@@ -1,29 +1,34 @@
 -- The second line by check's verdict, and the fields of an answer by where they stand in it.
 -- Assumes nothing.
 use mathlib.Core.Path.{_≡_, refl, ap}
-use mathlib.Core.List.{List, [], _∷_, _++_}
+use mathlib.Core.List.{List, [], _∷_, _++_, append-nil, append-assoc}
 use Prim.Native.Nat.{ℕ, zero, suc, _+_, _*_}
+use Prim.Native.Char.{code}
 use native.Mathlib.Omega.{arith}
+use lib.Dec.{eqb}
+use borrow.Author.Tests.{ne-eqb}
 use lib.ListN.{getD}
-use Rattle.records.specs.Below.{tab}
+use Rattle.below.specs.Below.{if_then_else_, tab}
 use Rattle.records.specs.Outcome.{Verdict, accepted, refused}
-use Rattle.records.proofs.RowLaws.{tab-ext}
+use Rattle.below.proofs.RowLaws.{tab-ext}
 use Rattle.conflicts.specs.Answer.{keepMarkIn, haplotypeIn, sideIn, blockIn}
 use Rattle.listing.proofs.AppendLaws.{led-append}
-use Rattle.listing.specs.Listing.{digits, letters, signOf, decimal, blockWord, led, joined, field, line, columnFields, fragmentFields, errorFreeWord, yesWord, noWord, errorFreeLine, fields}
+use Rattle.below.specs.Text.{ascii}
+use Rattle.listing.specs.Listing.{digits, letters, signOf, decimal, blockWord, led, joined, field, line, columnFields, fragmentFields, errorFreeLine, fields}
 
-pub yes-line : {v : Verdict} {k : ℕ} → v ≡ accepted k → k ≡ 0 → line (errorFreeWord ∷ yesWord ∷ []) ≡ errorFreeLine v
+-- the second line, by what check says
+pub accepted-line : {v : Verdict} (k : ℕ) → v ≡ accepted k → errorFreeLine v ≡ if eqb k 0 then ascii "error-free yes\n" else ascii "error-free no\n"
 unfolding errorFreeLine
-yes-line e z = rw (e, z)
+accepted-line zero e = rw e
+accepted-line (suc k) e = rw (e, ne-eqb (suc k) 0 (λ z. omega arith))
 
-pub no-line : {v : Verdict} (k : ℕ) → v ≡ accepted k → (k ≡ 0 → ⊥) → line (errorFreeWord ∷ noWord ∷ []) ≡ errorFreeLine v
-unfolding errorFreeLine
-no-line zero e f = absurd (f refl)
-no-line (suc k) e f = rw e
-
-pub refused-line : {v : Verdict} {k p : ℕ} → v ≡ refused k p → line (errorFreeWord ∷ noWord ∷ []) ≡ errorFreeLine v
+pub refused-line : {v : Verdict} {k p : ℕ} → v ≡ refused k p → errorFreeLine v ≡ ascii "error-free no\n"
 unfolding errorFreeLine
 refused-line e = rw e
+
+-- two texts and two numbers in turn, and a text after them
+pub words-then : (s x t y e : List ℕ) → s ++ (x ++ (t ++ (y ++ e))) ≡ (s ++ (x ++ (t ++ (y ++ [])))) ++ e
+words-then s x t y e = simp (append-assoc, append-nil)
 
 module _ {A : Type 0} (f : ℕ → A) (answer : List ℕ) where
   moved : (count : ℕ) (from to : ℕ → ℕ) → ((i : ℕ) → from i ≡ to i) → tab count (λ i. f (getD answer (from i) 0)) ≡ tab count (λ i. f (getD answer (to i) 0))
@@ -31,12 +36,12 @@ module _ {A : Type 0} (f : ℕ → A) (answer : List ℕ) where
 
 -- the fields, each by the byte that it starts at
 pub columns-are : (n : ℕ) (answer : List ℕ)
-    → led 32
+    → led " "
     (field (tab n (λ c. signOf digits (getD answer (0 + c) 0)))
     ∷ field (tab n (λ c. signOf letters (getD answer (n + c) 0)))
     ∷ field (tab n (λ c. signOf letters (getD answer (2 * n + c) 0)))
     ∷ [])
-    ≡ led 32 (columnFields n answer)
+    ≡ led " " (columnFields n answer)
 unfolding columnFields keepMarkIn haplotypeIn
 columns-are n answer =
     cc (
@@ -46,11 +51,11 @@ columns-are n answer =
     )
 
 pub fragments-are : (m n : ℕ) (answer : List ℕ)
-    → led 32
+    → led " "
     (field (tab m (λ i. signOf digits (getD answer (3 * n + i) 0)))
-    ∷ field (joined 44 (tab m (λ i. blockWord (getD answer (3 * n + m + i) 0))))
+    ∷ field (joined "," (tab m (λ i. blockWord (getD answer (3 * n + m + i) 0))))
     ∷ [])
-    ≡ led 32 (fragmentFields m n answer)
+    ≡ led " " (fragmentFields m n answer)
 unfolding fragmentFields sideIn blockIn
 fragments-are m n answer =
     cc (
@@ -59,6 +64,6 @@ fragments-are m n answer =
     )
 
 -- the count, the columns' fields, the fragments' fields, and the line feed
-pub line-is : (m n count : ℕ) (answer : List ℕ) → (decimal count ++ (led 32 (columnFields n answer) ++ led 32 (fragmentFields m n answer))) ++ (10 ∷ []) ≡ line (fields m n count answer)
-unfolding line joined fields
+pub line-is : (m n count : ℕ) (answer : List ℕ) → (decimal count ++ (led " " (columnFields n answer) ++ led " " (fragmentFields m n answer))) ++ (code "\n" ∷ []) ≡ line (fields m n count answer)
+unfolding line joined fields ascii
 line-is m n count answer = rw led-append

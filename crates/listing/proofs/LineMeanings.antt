@@ -4,6 +4,7 @@ use mathlib.Core.Path.{_≡_, refl, sym, ap, _∙_}
 use mathlib.Core.Logic.{_↔_, _⊎_, inl, inr}
 use mathlib.Core.List.{List, [], _∷_}
 use Prim.Native.Nat.{ℕ, zero, suc, _*_, _≤_, _<_}
+use Prim.Native.Char.{Char, code}
 use native.Mathlib.Nat.{le-of-eq}
 use native.Mathlib.Omega.{arith}
 use lib.ListN.{length, getD}
@@ -19,32 +20,33 @@ use Rattle.conflicts.proofs.GridLaws.{classes-agree}
 use Rattle.conflicts.proofs.Outcomes.{check-yes, snp-accepted, fragment-accepted}
 use Rattle.conflicts.proofs.CorrectionsMinimality.{corrections-accepted}
 use Rattle.conflicts.proofs.AcceptedServices.{served}
-use Rattle.listing.specs.Listing.{joined, led, line, errorFreeWord, yesWord, noWord, errorFreeLine, serviceLine, blank, checkLine, snpLine, fragmentLine, correctionLine, listed, listing}
+use Rattle.below.specs.Text.{ascii}
+use Rattle.listing.specs.Listing.{errorFreeLine, serviceLine, blank, checkLine, snpLine, fragmentLine, correctionLine, listed, listing}
 use Rattle.listing.specs.Lines.{ServicesSay, FieldsLine, DeepLine, LinesSay, ListingSays}
 use Rattle.listing.proofs.ListingLaws.{length-blank}
 
 -- the two second lines differ, in the twelfth byte
-yes-no : line (errorFreeWord ∷ yesWord ∷ []) ≡ line (errorFreeWord ∷ noWord ∷ []) → ⊥
-unfolding line joined led errorFreeWord yesWord noWord
+yes-no : ascii "error-free yes\n" ≡ ascii "error-free no\n" → ⊥
+unfolding ascii
 yes-no e = let d = ap (λ (l : List ℕ). getD l 11 0) e in omega arith
 
 -- a second line that prints a count which is 0 exactly if something holds
 module _ {Holds : Type 0} (text : List ℕ) where
   line-says : (count : ℕ) → text ≡ errorFreeLine (accepted count) → (count ≡ 0) ↔ Holds
-      → ((text ≡ line (errorFreeWord ∷ yesWord ∷ [])) ↔ Holds) × ((text ≡ line (errorFreeWord ∷ noWord ∷ [])) ↔ (Holds → ⊥))
+      → ((text ≡ ascii "error-free yes\n") ↔ Holds) × ((text ≡ ascii "error-free no\n") ↔ (Holds → ⊥))
   unfolding errorFreeLine
   line-says zero e w = ((λ d. w .0 refl, λ h. e), (λ d. absurd (yes-no (sym e ∙ d)), λ f. absurd (f (w .0 refl))))
   line-says (suc k) e w = ((λ d. absurd (yes-no (sym d ∙ e)), λ h. absurd (let z = w .1 h in omega arith)), (λ d h. let z = w .1 h in omega arith, λ f. e))
 
 -- a service that accepts prints its fields, and one that refuses by 12 its refusal
-fields-line : (letter m n : ℕ) (Means : List ℕ → ℕ → Type 0) (verdict : Verdict) (left : List ℕ) (s : Accepts verdict) → Means left (s .count)
-    → FieldsLine letter m n Means (serviceLine letter m n verdict left)
+fields-line : (letter : Char) (m n : ℕ) (Means : List ℕ → ℕ → Type 0) (verdict : Verdict) (left : List ℕ) (s : Accepts verdict) → Means left (s .count)
+    → FieldsLine letter m n Means (serviceLine (code letter) m n verdict left)
 unfolding serviceLine
-fields-line letter m n Means verdict left s means = record { count = s .count; answer = left; means = means; prints = ap (λ (v : Verdict). serviceLine letter m n v left) (s .is) }
+fields-line letter m n Means verdict left s means = record { count = s .count; answer = left; means = means; prints = ap (λ (v : Verdict). serviceLine (code letter) m n v left) (s .is) }
 
-deep-line : (m n : ℕ) (g : Grid) (verdict : Verdict) (left : List ℕ) → RefusesDeep g verdict → DeepLine g (serviceLine 67 m n verdict left)
-unfolding serviceLine
-deep-line m n g verdict left s = record { place = s .place; deep = s .deep; prints = ap (λ (v : Verdict). serviceLine 67 m n v left) (s .is) }
+deep-line : (m n : ℕ) (g : Grid) (verdict : Verdict) (left : List ℕ) → RefusesDeep g verdict → DeepLine g (serviceLine (code "C") m n verdict left)
+unfolding serviceLine ascii
+deep-line m n g verdict left s = record { place = s .place; deep = s .deep; prints = ap (λ (v : Verdict). serviceLine (code "C") m n v left) (s .is) }
 
 module _ (n m : ℕ) (table : List ℕ) (e : tableVerdict n table ≡ accepted m) where
   abbrev answer : List ℕ
@@ -68,7 +70,7 @@ module _ (n m : ℕ) (table : List ℕ) (e : tableVerdict n table ≡ accepted m
         corrections = s .corrections answer output work exact (length-blank (32 * m)) enough;
       }
 
-  check-says : ((checkLine m n table ≡ line (errorFreeWord ∷ yesWord ∷ [])) ↔ AgreeingClasses (gridOf n table)) × ((checkLine m n table ≡ line (errorFreeWord ∷ noWord ∷ [])) ↔ (AgreeingClasses (gridOf n table) → ⊥))
+  check-says : ((checkLine m n table ≡ ascii "error-free yes\n") ↔ AgreeingClasses (gridOf n table)) × ((checkLine m n table ≡ ascii "error-free no\n") ↔ (AgreeingClasses (gridOf n table) → ⊥))
   unfolding checkLine
   check-says =
       let s = services-say .check in
@@ -76,24 +78,24 @@ module _ (n m : ℕ) (table : List ℕ) (e : tableVerdict n table ≡ accepted m
       let a = classes-agree (gridOf n table) in
       line-says _ (s .count) (ap errorFreeLine (s .is)) (λ z. a .0 (w .0 z), λ h. w .1 (a .1 h))
 
-  snps-say : FieldsLine 83 m n (SnpRemoval (gridOf n table)) (snpLine m n table)
+  snps-say : FieldsLine "S" m n (SnpRemoval (gridOf n table)) (snpLine m n table)
   unfolding snpLine
-  snps-say = let s = services-say .snps in fields-line 83 m n (SnpRemoval (gridOf n table)) _ _ s (snp-accepted n table answer work (s .count) (s .is) .0)
+  snps-say = let s = services-say .snps in fields-line "S" m n (SnpRemoval (gridOf n table)) _ _ s (snp-accepted n table answer work (s .count) (s .is) .0)
 
-  fragments-say : FieldsLine 70 m n (FragmentRemoval (gridOf n table)) (fragmentLine m n table)
+  fragments-say : FieldsLine "F" m n (FragmentRemoval (gridOf n table)) (fragmentLine m n table)
   unfolding fragmentLine
-  fragments-say = let s = services-say .fragments in fields-line 70 m n (FragmentRemoval (gridOf n table)) _ _ s (fragment-accepted n table answer work (s .count) (s .is) .0)
+  fragments-say = let s = services-say .fragments in fields-line "F" m n (FragmentRemoval (gridOf n table)) _ _ s (fragment-accepted n table answer work (s .count) (s .is) .0)
 
   abbrev Corrects : List ℕ → ℕ → Type 0
   Corrects left count = (fixed : List ℕ) × Corrected n table left fixed count
 
-  corrections-say : ((j : ℕ) → j < length table → getD table j 0 < 256) → FieldsLine 67 m n Corrects (correctionLine m n table) ⊎ DeepLine (gridOf n table) (correctionLine m n table)
+  corrections-say : ((j : ℕ) → j < length table → getD table j 0 < 256) → FieldsLine "C" m n Corrects (correctionLine m n table) ⊎ DeepLine (gridOf n table) (correctionLine m n table)
   unfolding correctionLine
   corrections-say bytes = go (services-say .corrections)
     where
       go : Accepts (correctionsLeaves n table answer output work .outcome) ⊎ RefusesDeep (gridOf n table) (correctionsLeaves n table answer output work .outcome)
-          → FieldsLine 67 m n Corrects (correctionLine m n table) ⊎ DeepLine (gridOf n table) (correctionLine m n table)
-      go (inl s) = inl (fields-line 67 m n Corrects _ _ s (_, corrections-accepted n table answer output work (s .count) (s .is) bytes .0))
+          → FieldsLine "C" m n Corrects (correctionLine m n table) ⊎ DeepLine (gridOf n table) (correctionLine m n table)
+      go (inl s) = inl (fields-line "C" m n Corrects _ _ s (_, corrections-accepted n table answer output work (s .count) (s .is) bytes .0))
       go (inr s) = inr (deep-line m n (gridOf n table) _ _ s)
 
   -- the lines of a table that is accepted

@@ -1,18 +1,22 @@
--- Buffers that are all 0, and the listing by the table's verdict.
+-- Buffers that are all 0, the listing by the table's verdict, and the lines of S, F and C by their letters.
 -- Assumes nothing.
 use mathlib.Core.Path.{_≡_, refl, ap, ap₂, _∙_}
 use mathlib.Core.List.{List, List·Memᴰ·head, List·Memᴰ·tail, _++_, _∷_}
-use Prim.Native.Nat.{ℕ, zero, suc, _-_, _≤_}
+use Prim.Native.Nat.{ℕ, zero, suc, _*_, _-_, _≤_}
+use Prim.Native.Char.{code}
 use native.Mathlib.Nat.{not-suc-le-zero, sub-zero}
 use native.Mathlib.Omega.{arith}
 use lib.ListN.{length, take, drop, length-append, length-replicate}
 use lib.Seq.{take-at}
+use Rattle.below.specs.Below.{_==_}
 use Rattle.records.specs.Outcome.{Verdict, accepted}
 use Rattle.records.specs.Table.{fragments, columnCount}
 use Rattle.records.specs.Rules.{sizeRules, tableRules, tableVerdict}
-use Rattle.records.proofs.BelowLaws.{isnt-<?}
+use Rattle.below.proofs.BelowLaws.{isnt-<?}
 use Rattle.records.proofs.RuleLaws.{unbroken, accepted-count}
-use Rattle.listing.specs.Listing.{blank, serviceLine, listed, listing}
+use Rattle.conflicts.specs.Answer.{answerSize}
+use Rattle.conflicts.specs.Services.{snpRemovalLeaves, fragmentRemovalLeaves, correctionsLeaves}
+use Rattle.listing.specs.Listing.{serviceLine, blank, snpLine, fragmentLine, correctionLine, Letter, isS, isF, isC, leastLine, listed, listing}
 
 -- ---- buffers
 
@@ -58,7 +62,22 @@ listing-is n table v e d = ap (listed n table) d ∙ ap (λ (k : ℕ). listed k 
 
 -- ---- a service's line
 
--- a service that said v and left the answer, by its definition, prints as on blank buffers
-pub line-left : (letter m n : ℕ) (says : List ℕ → List ℕ → Verdict) (leaves : List ℕ → List ℕ → List ℕ) {answer work answer0 work0 left : List ℕ} {v : Verdict} → answer ≡ answer0 → work ≡ work0
-    → v ≡ says answer work → left ≡ leaves answer work → serviceLine letter m n v left ≡ serviceLine letter m n (says answer0 work0) (leaves answer0 work0)
-line-left letter m n says leaves e d o a = ap₂ (serviceLine letter m n) (o ∙ ap₂ says e d) (a ∙ ap₂ leaves e d)
+-- the letter that is neither S nor F
+pub third : {letter : ℕ} → Letter letter → (letter ≡ code "S" → ⊥) → (letter ≡ code "F" → ⊥) → letter ≡ code "C"
+third isS f g = absurd (f refl)
+third isF f g = absurd (g refl)
+third isC f g = refl
+
+-- what a service said and left on blank buffers prints as its line
+module _ (m n : ℕ) (table : List ℕ) {letter : ℕ} {answer work left : List ℕ} {v : Verdict} (a : answer ≡ blank (answerSize m n)) (w : work ≡ blank 32768) where
+  pub snps-print : letter ≡ code "S" → v ≡ snpRemovalLeaves n table answer work .outcome → left ≡ snpRemovalLeaves n table answer work .answer → serviceLine letter m n v left ≡ leastLine letter m n table
+  unfolding leastLine snpLine _==_
+  snps-print l e d = rw (e, d, l, a, w)
+
+  pub fragments-print : letter ≡ code "F" → v ≡ fragmentRemovalLeaves n table answer work .outcome → left ≡ fragmentRemovalLeaves n table answer work .answer → serviceLine letter m n v left ≡ leastLine letter m n table
+  unfolding leastLine fragmentLine _==_
+  fragments-print l e d = rw (e, d, l, a, w)
+
+  pub corrections-print : {output : List ℕ} → letter ≡ code "C" → output ≡ blank (32 * m) → v ≡ correctionsLeaves n table answer output work .outcome → left ≡ correctionsLeaves n table answer output work .answer → serviceLine letter m n v left ≡ leastLine letter m n table
+  unfolding leastLine correctionLine _==_
+  corrections-print l o e d = rw (e, d, l, a, o, w)

@@ -3,18 +3,19 @@
 use mathlib.Core.Path.{_≡_, sym, ap₂, _∙_}
 use mathlib.Core.List.{List, [], _∷_, _++_}
 use Prim.Native.Nat.{ℕ, zero, suc, _+_, _*_, _-_, _/_, _%_, _^_, _<_, _≤_}
+use Prim.Native.Char.{code}
 use native.Mathlib.Nat.{not-suc-le-zero, pow-succ', pow-le-pow-right}
 use native.Mathlib.Omega.{arith}
 use lib.ListN.{length, length-append}
 use borrow.Author.Tests.{lt-ltb}
-use Rattle.io.specs.Digits.{Fewest, glyph}
-use Rattle.io.specs.Digits.{digits as digitsIn}
-use Rattle.records.specs.Below.{_<?_, _==_}
-use Rattle.records.proofs.BelowLaws.{if-true, if-false, if-ind, lt-<?, le-isnt}
+use Rattle.io.specs.Digits.{Fewest, glyph, digits as digitsIn}
+use Rattle.below.specs.Below.{_<?_, _==_}
+use Rattle.below.proofs.BelowLaws.{if-true, if-false, if-ind, lt-<?, le-isnt}
+use Rattle.below.specs.Text.{ascii}
 use Rattle.listing.specs.Listing.{digitsOf, decimal, blockWord}
 
 -- a digit below 10 as the kit has it
-glyph-is : (x : ℕ) → glyph (x % 10) ≡ 48 + x % 10
+glyph-is : (x : ℕ) → glyph (x % 10) ≡ code "0" + x % 10
 glyph-is x = rw (lt-ltb (x % 10) 10 (omega arith))
 
 -- ten times a power, with the next power an unknown
@@ -69,9 +70,9 @@ unfolding decimal digitsOf
 decimal-some x = rw length-append (omega arith)
 
 pub block-short : (block : ℕ) → block < 256 → length (blockWord block) ≤ 3
-unfolding blockWord
+unfolding blockWord ascii
 block-short block h = if-ind (λ (l : List ℕ). length l ≤ 3) (block == 255) (λ t. omega arith) (λ t. decimal-short 2 block (omega arith))
 
 pub block-some : (block : ℕ) → 0 < length (blockWord block)
-unfolding blockWord
+unfolding blockWord ascii
 block-some block = if-ind (λ (l : List ℕ). 0 < length l) (block == 255) (λ t. omega arith) (λ t. decimal-some block)

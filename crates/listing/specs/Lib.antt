@@ -1,3 +1,3 @@
-pub mod Appended
 pub mod Listing
 pub mod Lines
+pub mod Algorithm

@@ -1,21 +1,23 @@
 -- The listing of a table, as bytes (paper 01, "The listing program").
 -- Assumes nothing.
 use Prim.Native.Nat.{ℕ, zero, suc, _+_, _*_, _/_, _%_}
+use Prim.Native.Char.{Char, code}
 use mathlib.Core.List.{List, [], _∷_, _++_}
 use lib.ListN.{getD, replicate}
-use Rattle.records.specs.Below.{if_then_else_, _==_, _<?_, tab}
+use Rattle.below.specs.Below.{if_then_else_, _==_, _<?_, tab}
 use Rattle.records.specs.Outcome.{Verdict, accepted, refused}
 use Rattle.records.specs.Table.{columnCount}
 use Rattle.records.specs.Rules.{tableVerdict}
 use Rattle.conflicts.specs.Answer.{answerSize, keepMarkIn, haplotypeIn, sideIn, blockIn}
 use Rattle.conflicts.specs.Services.{checkLeaves, snpRemovalLeaves, fragmentRemovalLeaves, correctionsLeaves}
+use Rattle.below.specs.Text.{ascii}
 
 -- ---- words
 
 -- the decimal digits of a number, as far as the fuel reaches
 unfoldable pub digitsOf : ℕ → ℕ → List ℕ
 digitsOf zero x = []
-digitsOf (suc fuel) x = (if x <? 10 then [] else digitsOf fuel (x / 10)) ++ ((48 + x % 10) ∷ [])
+digitsOf (suc fuel) x = (if x <? 10 then [] else digitsOf fuel (x / 10)) ++ ((code "0" + x % 10) ∷ [])
 
 -- a number in decimal digits, with no 0 in front
 unfoldable pub decimal : ℕ → List ℕ
@@ -23,82 +25,54 @@ decimal x = digitsOf (suc x) x
 
 -- "keep marks" and "sides": the digits 0, 1, 2
 unfoldable pub digits : List ℕ
-digits = 48 ∷ 49 ∷ 50 ∷ []
+digits = ascii "012"
 
 -- "haplotype": - a hole, A, B, # a removed column
 unfoldable pub letters : List ℕ
-letters = 45 ∷ 65 ∷ 66 ∷ 35 ∷ []
+letters = ascii "-AB#"
 
 -- a code by its sign, one of the digits or of the letters
 unfoldable pub signOf : List ℕ → ℕ → ℕ
-signOf signs code = getD signs code 0
+signOf signs k = getD signs k 0
 
 -- a block: its number, or "- removed fragment"
 unfoldable pub blockWord : ℕ → List ℕ
-blockWord block = if block == 255 then 45 ∷ [] else decimal block
+blockWord block = if block == 255 then ascii "-" else decimal block
 
 -- words, each after a separator
-unfoldable pub led : ℕ → List (List ℕ) → List ℕ
+unfoldable pub led : Char → List (List ℕ) → List ℕ
 led separator [] = []
-led separator (w ∷ ws) = separator ∷ (w ++ led separator ws)
+led separator (w ∷ ws) = code separator ∷ (w ++ led separator ws)
 
 -- words with a separator between two of them
-unfoldable pub joined : ℕ → List (List ℕ) → List ℕ
+unfoldable pub joined : Char → List (List ℕ) → List ℕ
 joined separator [] = []
 joined separator (w ∷ ws) = w ++ led separator ws
 
 -- "an empty field prints as a full stop"
 unfoldable pub field : List ℕ → List ℕ
-field [] = 46 ∷ []
+field [] = ascii "."
 field (b ∷ bs) = b ∷ bs
 
 -- ---- lines
 
 -- words with spaces between them, and a line feed
 unfoldable pub line : List (List ℕ) → List ℕ
-line words = joined 32 words ++ (10 ∷ [])
-
--- refused
-unfoldable pub refusedWord : List ℕ
-refusedWord = 114 ∷ 101 ∷ 102 ∷ 117 ∷ 115 ∷ 101 ∷ 100 ∷ []
-
--- at
-unfoldable pub atWord : List ℕ
-atWord = 97 ∷ 116 ∷ []
-
--- fragments
-unfoldable pub fragmentsWord : List ℕ
-fragmentsWord = 102 ∷ 114 ∷ 97 ∷ 103 ∷ 109 ∷ 101 ∷ 110 ∷ 116 ∷ 115 ∷ []
-
--- snps
-unfoldable pub snpsWord : List ℕ
-snpsWord = 115 ∷ 110 ∷ 112 ∷ 115 ∷ []
-
--- error-free
-unfoldable pub errorFreeWord : List ℕ
-errorFreeWord = 101 ∷ 114 ∷ 114 ∷ 111 ∷ 114 ∷ 45 ∷ 102 ∷ 114 ∷ 101 ∷ 101 ∷ []
-
--- yes
-unfoldable pub yesWord : List ℕ
-yesWord = 121 ∷ 101 ∷ 115 ∷ []
-
--- no
-unfoldable pub noWord : List ℕ
-noWord = 110 ∷ 111 ∷ []
+line words = joined " " words ++ ascii "\n"
 
 -- a refusal: `refused 8 at 2`
 unfoldable pub refusal : ℕ → ℕ → List (List ℕ)
-refusal number place = refusedWord ∷ decimal number ∷ atWord ∷ decimal place ∷ []
+refusal number place = ascii "refused" ∷ decimal number ∷ ascii "at" ∷ decimal place ∷ []
 
 -- the first line: `fragments 3 snps 3`
 unfoldable pub sizesLine : ℕ → ℕ → List ℕ
-sizesLine m n = line (fragmentsWord ∷ decimal m ∷ snpsWord ∷ decimal n ∷ [])
+sizesLine m n = line (ascii "fragments" ∷ decimal m ∷ ascii "snps" ∷ decimal n ∷ [])
 
 -- the second line "ends in `yes` for an error-free table": check's count is 0 for yes. Check refuses no table that is accepted (`ServicesSay` in Lines), so `no` is check's (`LinesSay`)
 unfoldable pub errorFreeLine : Verdict → List ℕ
-errorFreeLine (accepted zero) = line (errorFreeWord ∷ yesWord ∷ [])
-errorFreeLine (accepted (suc count)) = line (errorFreeWord ∷ noWord ∷ [])
-errorFreeLine (refused number place) = line (errorFreeWord ∷ noWord ∷ [])
+errorFreeLine (accepted zero) = ascii "error-free yes\n"
+errorFreeLine (accepted (suc count)) = ascii "error-free no\n"
+errorFreeLine (refused number place) = ascii "error-free no\n"
 
 -- "keep marks, haplotype 1, haplotype 2" of an answer for n columns
 unfoldable pub columnFields : ℕ → List ℕ → List (List ℕ)
@@ -112,7 +86,7 @@ columnFields n answer =
 unfoldable pub fragmentFields : ℕ → ℕ → List ℕ → List (List ℕ)
 fragmentFields m n answer =
     field (tab m (λ i. signOf digits (sideIn n answer i)))
-    ∷ field (joined 44 (tab m (λ i. blockWord (blockIn m n answer i))))
+    ∷ field (joined "," (tab m (λ i. blockWord (blockIn m n answer i))))
     ∷ []
 
 -- "fields after the letter": the count and the answer's
@@ -136,15 +110,25 @@ checkLine m n table = errorFreeLine (checkLeaves n table (blank (answerSize m n)
 
 -- S's line
 unfoldable pub snpLine : ℕ → ℕ → List ℕ → List ℕ
-snpLine m n table = let left = snpRemovalLeaves n table (blank (answerSize m n)) (blank 32768) in serviceLine 83 m n (left .outcome) (left .answer)
+snpLine m n table = let left = snpRemovalLeaves n table (blank (answerSize m n)) (blank 32768) in serviceLine (code "S") m n (left .outcome) (left .answer)
 
 -- F's line
 unfoldable pub fragmentLine : ℕ → ℕ → List ℕ → List ℕ
-fragmentLine m n table = let left = fragmentRemovalLeaves n table (blank (answerSize m n)) (blank 32768) in serviceLine 70 m n (left .outcome) (left .answer)
+fragmentLine m n table = let left = fragmentRemovalLeaves n table (blank (answerSize m n)) (blank 32768) in serviceLine (code "F") m n (left .outcome) (left .answer)
 
 -- C's line
 unfoldable pub correctionLine : ℕ → ℕ → List ℕ → List ℕ
-correctionLine m n table = let left = correctionsLeaves n table (blank (answerSize m n)) (blank (32 * m)) (blank 32768) in serviceLine 67 m n (left .outcome) (left .answer)
+correctionLine m n table = let left = correctionsLeaves n table (blank (answerSize m n)) (blank (32 * m)) (blank 32768) in serviceLine (code "C") m n (left .outcome) (left .answer)
+
+-- the letters of the services that print an answer
+pub data Letter : ℕ → Type 0 where
+  isS : Letter (code "S")
+  isF : Letter (code "F")
+  isC : Letter (code "C")
+
+-- S's, F's or C's line, by its letter
+unfoldable pub leastLine : ℕ → ℕ → ℕ → List ℕ → List ℕ
+leastLine letter m n table = if letter == code "S" then snpLine m n table else if letter == code "F" then fragmentLine m n table else correctionLine m n table
 
 -- the five lines of a table of m fragments and n columns; "a refusal of the table prints one line, and no more"
 unfoldable pub listed : ℕ → List ℕ → Verdict → List ℕ

@@ -1,21 +1,15 @@
 // The fields of an answer.
 ghost use mathlib.Core.Path.{_≡_};
-ghost use mathlib.Core.List.{_∷_};
+ghost use mathlib.Core.List.{_++_};
 ghost use Prim.Native.Nat.{_+_, _*_, _<_, _≤_};
 ghost use lib.ListN.{length, getD};
-ghost use Rattle.records.specs.Below.{tab};
-ghost use Rattle.listing.specs.Appended.{Appended};
+ghost use Rattle.below.specs.Below.{tab};
+ghost use Rattle.below.specs.Text.{ascii};
+ghost use Rattle.listing.specs.Algorithm.Appended.{Appended};
 ghost use Rattle.listing.specs.Listing.{signOf, blockWord, joined, field};
 use crate::text::put_byte;
 use crate::text::put_number;
 use records::byte;
-
-// The sign of the code that is byte k.
-fn sign_at(signs: &[u8], bytes: &[u8], k: usize) -> u8
-    ensures { λ r. ⌜ r ≡ signOf (now (signs .entry)) (getD (now (bytes .entry)) k 0) ⌝ }
-{
-    byte(signs, byte(bytes, k) as usize)
-}
 
 // The signs of count codes, from byte `from` on.
 fn put_signs(
@@ -33,7 +27,7 @@ fn put_signs(
     let mut next = at;
     let mut i = 0;
     while i < count {
-        next = put_byte(sign_at(signs, bytes, from + i), out, next);
+        next = put_byte(byte(signs, byte(bytes, from + i) as usize), out, next);
         i += 1;
     }
     next
@@ -50,7 +44,7 @@ pub(crate) fn put_field(
 ) -> usize
     requires { ⌜ from + count ≤ length (now bytes) ⌝ }
     requires { ⌜ at + (count + 2) ≤ length (now out) ⌝ }
-    ensures appended { λ r. ⌜ Appended (32 ∷ field (tab count (λ i. signOf (now (signs .entry)) (getD (now (bytes .entry)) (from + i) 0)))) at (now (out .entry)) r (now (out .exit)) ⌝ }
+    ensures appended { λ r. ⌜ Appended (ascii " " ++ field (tab count (λ i. signOf (now (signs .entry)) (getD (now (bytes .entry)) (from + i) 0)))) at (now (out .entry)) r (now (out .exit)) ⌝ }
     ensures within { λ r. ⌜ r ≤ at + (count + 2) ⌝ }
 {
     let next = put_byte(b' ', out, at);
@@ -72,28 +66,19 @@ fn put_block(block: u8, out: &mut [u8], at: usize) -> usize
     put_number(block as usize, out, at)
 }
 
-// A comma and the next block.
-fn put_next_block(block: u8, out: &mut [u8], at: usize) -> usize
-    requires { ⌜ at + 21 ≤ length (now out) ⌝ }
-    ensures appended { λ r. ⌜ Appended (44 ∷ blockWord block) at (now (out .entry)) r (now (out .exit)) ⌝ }
-    ensures within { λ r. ⌜ r ≤ at + 4 ⌝ }
-{
-    let next = put_byte(b',', out, at);
-    put_block(block, out, next)
-}
-
 // count blocks, from byte `from` on, with commas between them.
 fn put_blocks(bytes: &[u8], from: usize, count: usize, out: &mut [u8], at: usize) -> usize
     requires { ⌜ 0 < count ⌝ }
     requires { ⌜ from + count ≤ length (now bytes) ⌝ }
     requires { ⌜ at + (4 * count + 20) ≤ length (now out) ⌝ }
-    ensures appended { λ r. ⌜ Appended (joined 44 (tab count (λ i. blockWord (getD (now (bytes .entry)) (from + i) 0)))) at (now (out .entry)) r (now (out .exit)) ⌝ }
+    ensures appended { λ r. ⌜ Appended (joined "," (tab count (λ i. blockWord (getD (now (bytes .entry)) (from + i) 0)))) at (now (out .entry)) r (now (out .exit)) ⌝ }
     ensures within { λ r. ⌜ r ≤ at + 4 * count ⌝ }
 {
     let mut next = put_block(byte(bytes, from), out, at);
     let mut i = 1;
     while i < count {
-        next = put_next_block(byte(bytes, from + i), out, next);
+        next = put_byte(b',', out, next);
+        next = put_block(byte(bytes, from + i), out, next);
         i += 1;
     }
     next
@@ -109,7 +94,7 @@ pub(crate) fn put_block_field(
 ) -> usize
     requires { ⌜ from + count ≤ length (now bytes) ⌝ }
     requires { ⌜ at + (4 * count + 22) ≤ length (now out) ⌝ }
-    ensures appended { λ r. ⌜ Appended (32 ∷ field (joined 44 (tab count (λ i. blockWord (getD (now (bytes .entry)) (from + i) 0))))) at (now (out .entry)) r (now (out .exit)) ⌝ }
+    ensures appended { λ r. ⌜ Appended (ascii " " ++ field (joined "," (tab count (λ i. blockWord (getD (now (bytes .entry)) (from + i) 0))))) at (now (out .entry)) r (now (out .exit)) ⌝ }
     ensures within { λ r. ⌜ r ≤ at + (4 * count + 2) ⌝ }
 {
     let first = put_byte(b' ', out, at);

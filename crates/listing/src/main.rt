@@ -3,7 +3,7 @@ ghost use mathlib.Core.Path.{_≡_};
 ghost use Prim.Native.Nat.{_≤_};
 ghost use lib.ListN.{length, take};
 ghost use Rattle.records.specs.Outcome.{accepted};
-ghost use Rattle.listing.specs.Appended.{Appended};
+ghost use Rattle.listing.specs.Algorithm.Appended.{Appended};
 ghost use Rattle.listing.specs.Listing.{listed, listing};
 use input::read_input;
 use libc::STDERR_FILENO;
@@ -15,9 +15,7 @@ use records::Outcome;
 use records::column_count;
 use records::table_fault;
 use services::put_check;
-use services::put_corrections;
-use services::put_fragments;
-use services::put_snps;
+use services::put_least;
 
 mod fields;
 mod input;
@@ -34,9 +32,9 @@ fn put_lines(m: usize, n: usize, table: &[u8], out: &mut [u8]) -> usize
 {
     let a = put_sizes(m, n, out, 0);
     let b = put_check(m, n, table, out, a);
-    let c = put_snps(m, n, table, out, b);
-    let d = put_fragments(m, n, table, out, c);
-    put_corrections(m, n, table, out, d)
+    let c = put_least(b'S', m, n, table, out, b);
+    let d = put_least(b'F', m, n, table, out, c);
+    put_least(b'C', m, n, table, out, d)
 }
 
 // The listing of any bytes, and its length.

@@ -2,7 +2,7 @@
 ghost use mathlib.Core.List.{[], _∷_};
 ghost use Prim.Native.Nat.{_+_, _<_, _≤_};
 ghost use lib.ListN.{length};
-ghost use Rattle.listing.specs.Appended.{Appended};
+ghost use Rattle.listing.specs.Algorithm.Appended.{Appended};
 ghost use Rattle.listing.specs.Listing.{decimal};
 
 pub(crate) fn put_byte(b: u8, out: &mut [u8], at: usize) -> usize

@@ -8,25 +8,25 @@ use native.Mathlib.Omega.{arith}
 use native.Mathlib.Decide.{decLt}
 use lib.Dec.{T}
 use lib.ListN.{length, getD, set, List·getD-eq-default}
-use Rattle.records.specs.Below.{if_then_else_, bit, tab, _<?_, _and_}
+use Rattle.below.specs.Below.{if_then_else_, bit, tab, _<?_, _and_, nth}
 use denote.Ref.{RefT, now}
 use Rattle.records.specs.Record.{isCall, codeAt}
 use Rattle.records.specs.Table.{fragments, recordAt, Part, partStart, partLength}
-use Rattle.records.proofs.SearchLaws.{<?-true, <?-false}
+use Rattle.below.proofs.SearchLaws.{<?-true, <?-false}
 use Rattle.records.proofs.FieldLaws.{codeAt-nil}
 use Rattle.records.proofs.PartLaws.{part-record, part-past}
-use Rattle.phasing.proofs.PairLaws.{and-true, if-first}
-use Rattle.records.proofs.BelowLaws.{both, left-of, right-of, anyBelow-at, anyBelow-of, same-test, if-ind, <?-lt, length-tab, getD-tab, any-ext}
-use Rattle.records.proofs.FillLaws.{Filled, filled-more}
+use Rattle.below.proofs.TestLaws.{and-true, if-first}
+use Rattle.below.proofs.BelowLaws.{both, left-of, right-of, anyBelow-at, anyBelow-of, same-test, if-ind, <?-lt, length-tab, getD-tab, any-ext}
+use Rattle.below.proofs.FillLaws.{Filled, filled-more}
 use Rattle.conflicts.specs.Choice.{marked}
 use Rattle.conflicts.specs.Grid.{Grid}
 use Rattle.conflicts.specs.Blocks.{linked, block}
-use Rattle.phasing.specs.Related.{codesRelate, related, marks, pairMatrix}
-use Rattle.phasing.specs.Components.{at, Within, Links, State, lowests}
+use Rattle.phasing.specs.Algorithm.Related.{codesRelate, related, pairMatrix}
+use Rattle.components.specs.Algorithm.Components.{marks, Within, Links, State, lowests}
 use Rattle.conflicts.proofs.GridLaws.{conflict-back}
-use Rattle.records.proofs.RowLaws.{tab-ext}
-use Rattle.phasing.proofs.AlikeLaws.{lowest-alike}
-use Rattle.phasing.proofs.ComponentLaws.{are-lowests}
+use Rattle.below.proofs.RowLaws.{tab-ext}
+use Rattle.matrix.proofs.AlikeLaws.{lowest-alike}
+use Rattle.components.proofs.ComponentLaws.{are-lowests}
 
 bit-test : (b : Bool) → (0 <? bit b) ≡ b
 unfolding _<?_
@@ -148,34 +148,10 @@ lowests-blocks g cols sides =
 
 -- the labels that the search for components leaves
 pub labels-of : (blocks : Bool) (g : Grid) (cols frags labels : List ℕ) → g .m ≤ 128 → length frags ≡ g .m → length labels ≡ g .m
-    → {ok : Bool} {s : ℕ → ℕ} → State (g .m) (marked frags) (marks (pairMatrix blocks g cols frags)) 16384 ok (at labels) s
+    → {ok : Bool} {s : ℕ → ℕ} → State (g .m) (marked frags) (marks (pairMatrix blocks g cols frags)) 16384 ok (nth labels) s
     → labels ≡ lowests (g .m) (related blocks g cols frags) frags
 labels-of blocks g cols frags labels few size long st =
     are-lowests (g .m) few frags labels (marks (pairMatrix blocks g cols frags)) (matrix-links blocks g cols frags few size) long st
     ∙ matrix-lowests blocks g cols frags few size
 
 -- ---- the matrix of a table's cells, row by row
-
--- its entry at place k
-abbrev pub tableCell : ℕ → List ℕ → ℕ → ℕ
-tableCell n table k = if k / 128 <? fragments table and k % 128 <? n then codeAt (recordAt table (k / 128)) (k % 128) else 0
-
--- a row's entry, from the part that record_at gave
-pub table-row : (n : ℕ) (t : RefT (List ℕ)) (i c : ℕ) (part : RefT (List ℕ)) → Part t (partStart (now t) i) (partLength (now t) i) part → c < 128
-    → (if c <? n then codeAt (now part) c else 0) ≡ tableCell n (now t) (128 * i + c)
-table-row n t i c part p h =
-    let m = fragments (now t) in
-    let q : i ≡ (128 * i + c) / 128 = omega arith in
-    let r : c ≡ (128 * i + c) % 128 = omega arith in
-    let place = ap₂ (λ (i c : ℕ). if i <? m and c <? n then codeAt (recordAt (now t) i) c else 0) q r in
-    elim (decLt i m) [
-      | yes g ↦
-          ap (λ (l : List ℕ). if c <? n then codeAt l c else 0) (part-record t i part p g)
-          ∙ ap (λ (b : Bool). if b then codeAt (recordAt (now t) i) c else 0) (and-true (c <? n) (<?-true i m g))
-          ∙ place
-      | no g ↦
-          ap (λ (l : List ℕ). if c <? n then codeAt l c else 0) (part-past t i part p (omega arith))
-          ∙ if-ind (λ x. x ≡ 0) (c <? n) (λ s. codeAt-nil c) (λ s. refl)
-          ∙ if-first (c <? n) (codeAt (recordAt (now t) i) c) 0 (<?-false i m (omega arith))
-          ∙ place
-    ]

@@ -10,47 +10,15 @@ use lib.Seq.{ext-getD}
 use native.Mathlib.Nat.{pos-of-ne-zero}
 use native.Mathlib.Omega.{arith}
 use borrow.Author.Tests.{ne-eqb}
-use Rattle.records.specs.Below.{if_then_else_, _==_, _<?_, _and_, _or_, tab}
+use Rattle.below.specs.Below.{if_then_else_, _==_, _<?_, _and_, _or_, tab}
 use Rattle.records.specs.Record.{isCall}
-use Rattle.records.proofs.BelowLaws.{length-tab, getD-tab}
-use Rattle.records.proofs.SearchLaws.{<?-true}
+use Rattle.below.proofs.BelowLaws.{length-tab, getD-tab}
+use Rattle.below.proofs.SearchLaws.{<?-true}
 use Rattle.conflicts.specs.Choice.{marked}
 use Rattle.conflicts.specs.Grid.{callsConflict}
-use Rattle.phasing.specs.Related.{codesRelate}
+use Rattle.phasing.specs.Algorithm.Related.{codesRelate}
 
--- ---- tests joined
-
-pub and-true : {a : Bool} (b : Bool) → a ≡ true → b ≡ (a and b)
-unfolding _and_
-and-true b e = rw e
-
-pub and-false : {a : Bool} (b : Bool) → a ≡ false → false ≡ (a and b)
-unfolding _and_
-and-false b e = rw e
-
-pub and-other : (a : Bool) {b : Bool} → b ≡ false → false ≡ (a and b)
-unfolding _and_
-and-other true e = sym e
-and-other false e = refl
-
-pub if-first : {a : Bool} (b : Bool) (x y : ℕ) → a ≡ false → y ≡ (if a and b then x else y)
-if-first b x y e = ap (λ (t : Bool). if t then x else y) (and-false b e)
-
-pub if-second : (a : Bool) {b : Bool} (x y : ℕ) → b ≡ false → y ≡ (if a and b then x else y)
-if-second a x y e = ap (λ (t : Bool). if t then x else y) (and-other a e)
-
-pub if-both : {a b : Bool} (x y : ℕ) → a ≡ true → b ≡ true → x ≡ (if a and b then x else y)
-if-both {a} {b} x y e f = ap (λ (t : Bool). if t then x else y) (sym f ∙ and-true b e)
-
--- ---- calls
-
-pub call-A : (x : ℕ) → x ≡ 1 → true ≡ isCall x
-unfolding isCall _==_ _or_
-call-A x e = rw e
-
-pub call-B : (x : ℕ) → (x ≡ 1 → ⊥) → eqb x 2 ≡ isCall x
-unfolding isCall _==_ _or_
-call-B x ne = rw (ne-eqb x 1 ne)
+-- ---- codes
 
 pub relate-blocks : (blocks : Bool) (x y : ℕ) → blocks ≡ true → (isCall x and isCall y) ≡ codesRelate blocks x y
 unfolding codesRelate
@@ -63,14 +31,6 @@ relate-conflict blocks x y e = rw e
 -- a column relates the fragments whose cells begin at p and q
 abbrev pub columnRelates : Bool → List ℕ → List ℕ → ℕ → ℕ → ℕ → Bool
 columnRelates blocks cells cols p q c = marked cols c and codesRelate blocks (getD cells (p + c) 0) (getD cells (q + c) 0)
-
--- ---- zeros
-
-pub tab-zeros : (n : ℕ) → tab {A = ℕ} n (λ k. 0) ≡ replicate {A = ℕ} n 0
-tab-zeros n =
-    ext-getD {A = ℕ} 0 (tab n (λ k. 0)) (replicate n 0) (length-tab {A = ℕ} n (λ k. 0) ∙ sym (length-replicate {A = ℕ} n 0)) λ i h.
-    let e = length-tab {A = ℕ} n (λ k. 0) in
-    getD-tab {A = ℕ} n (λ k. 0) i 0 (omega arith) ∙ sym (getD-replicate {A = ℕ} n i 0 0 (omega arith))
 
 -- ---- keep marks of two fragments
 

@@ -2,13 +2,14 @@
 ghost use mathlib.Core.Path.{_≡_};
 ghost use Prim.Native.Nat.{ℕ, _+_, _*_, _/_, _%_, _<_, _≤_};
 ghost use lib.ListN.{length, getD, set};
-ghost use Rattle.records.specs.Below.{if_then_else_, bit, anyBelow, _<?_, _and_};
+ghost use Rattle.below.specs.Below.{if_then_else_, bit, anyBelow, _<?_, _and_};
 ghost use Rattle.records.specs.Record.{isCall};
 ghost use Rattle.conflicts.specs.Choice.{marked};
 ghost use Rattle.conflicts.specs.Grid.{matrixGrid};
-ghost use Rattle.phasing.specs.Related.{codesRelate, related, pairMatrix};
+ghost use Rattle.phasing.specs.Algorithm.Related.{codesRelate, related, pairMatrix};
 use conflicts::calls_conflict;
 use records::byte;
+use records::is_call;
 
 // 1 for a test that passes, 0 for one that fails.
 fn mark(test: bool) -> u8
@@ -18,16 +19,6 @@ fn mark(test: bool) -> u8
         return 1;
     }
     0
-}
-
-// A or B.
-pub fn is_call(x: u8) -> bool
-    ensures { λ r. ⌜ r ≡ isCall x ⌝ }
-{
-    if x == 1 {
-        return true;
-    }
-    x == 2
 }
 
 // Both are calls.

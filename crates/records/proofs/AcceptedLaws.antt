@@ -3,16 +3,18 @@
 use mathlib.Core.Path.{_≡_, refl}
 use mathlib.Core.List.{List, List·Memᴰ, List·Memᴰ·head, List·Memᴰ·tail}
 use Prim.Native.Nat.{ℕ, _%_, _≤_, _<_}
+use native.Mathlib.Omega.{arith}
 use lib.Dec.{T}
 use lib.ListN.{length}
-use Rattle.records.specs.Below.{isnt}
+use Rattle.below.specs.Below.{isnt}
 use Rattle.records.specs.Record.{tagOf}
 use Rattle.records.specs.Table.{fragments, recordAt}
 use Rattle.records.specs.Outcome.{accepted}
+use Rattle.records.specs.Algorithm.Kept.{SizesKept}
 use Rattle.records.specs.Rules.{Rule, decide, gapped, tagTwice, recordRules, tableRules, sizeRules}
-use Rattle.records.proofs.BelowLaws.{isnt-isnt, isnt-<?, ==-eq, none-at, isnt-==}
-use Rattle.records.proofs.MemberLaws.{concat-of, tab-of}
-use Rattle.records.proofs.RuleLaws.{unbroken}
+use Rattle.below.proofs.BelowLaws.{isnt-isnt, isnt-<?, ==-eq, none-at, isnt-==}
+use Rattle.below.proofs.MemberLaws.{concat-of, tab-of}
+use Rattle.records.proofs.RuleLaws.{accepted-count, unbroken}
 use Rattle.records.proofs.PackLaws.{Sound}
 
 module _ (n : ℕ) (table : List ℕ) (j k : ℕ) (e : decide (sizeRules n table) (accepted j) ≡ accepted k) where
@@ -56,3 +58,13 @@ module _ (n : ℕ) (table : List ℕ) (j k : ℕ) (e : decide (tableRules n tabl
   unfolding recordRules tagTwice
   accepted-tags g l =
       isnt-== _ _ (none-at i _ (kept _ (List·Memᴰ·tail (List·Memᴰ·tail (List·Memᴰ·tail (List·Memᴰ·tail (List·Memᴰ·tail (List·Memᴰ·head refl))))))) g l)
+
+module _ {n m : ℕ} {table : List ℕ} (sized : SizesKept n m table) where
+  pub sized-count : fragments table ≡ m
+  sized-count = accepted-count _ _ m (sized .kept)
+
+  pub sized-n : n ≤ 128
+  sized-n = few-columns n table _ m (sized .kept)
+
+  pub sized-m : m ≤ 128
+  sized-m = let e = sized-count in let h = few-fragments n table _ m (sized .kept) in omega arith

@@ -6,10 +6,10 @@ use Prim.Native.Nat.{ℕ, zero, suc, _+_, _*_, _/_, _%_, _^_, _≤_, _<_}
 use native.Mathlib.Omega.{arith}
 use lib.ListN.{length, getD, drop, length-drop}
 use lib.Seq.{getD-drop, ext-getD, drop-at}
-use Rattle.records.specs.Below.{_<?_, sumBelow}
+use Rattle.below.specs.Below.{_<?_, sumBelow}
 use Rattle.records.specs.Record.{littleEndian, cellOf}
 use Rattle.records.specs.Writing.{bytesOf, cellBytes}
-use Rattle.records.proofs.BelowLaws.{if-ind, if-true, if-false, lt-<?, le-isnt, length-tab, getD-tab, sum-ext}
+use Rattle.below.proofs.BelowLaws.{if-ind, if-true, if-false, lt-<?, le-isnt, length-tab, getD-tab, sum-ext}
 
 -- ---- numbers
 

@@ -8,11 +8,11 @@ use native.Mathlib.Nat.{not-suc-le-zero, eq-zero-or-pos, eq-or-lt-of-le, le-of-s
 use native.Mathlib.Decide.{decLe}
 use native.Mathlib.Omega.{arith}
 use lib.Dec.{T}
-use Rattle.records.specs.Below.{firstBelow, endBelow, anyBelow, _==_, isnt}
+use Rattle.below.specs.Below.{firstBelow, endBelow, anyBelow, _==_, isnt}
 use Rattle.records.specs.Record.{isCall}
 use Rattle.records.specs.Writing.{callsEnd, callsStart, callsSpan}
 use Rattle.records.specs.Rules.{gapIn}
-use Rattle.records.proofs.BelowLaws.{both, left-of, right-of, or-left, or-right, or-cases, same-test, T-isnt, isnt-T, if-ind, if-true, if-false, ==-eq, ==-refl, eq-==, ne-isnt, <?-lt, lt-<?, anyBelow-of, anyBelow-at, firstBelow-at, firstBelow-least}
+use Rattle.below.proofs.BelowLaws.{both, left-of, right-of, or-left, or-right, or-cases, same-test, T-isnt, isnt-T, if-ind, if-true, if-false, ==-eq, ==-refl, eq-==, ne-isnt, <?-lt, lt-<?, anyBelow-of, anyBelow-at, firstBelow-at, firstBelow-least}
 
 -- ---- the end of the numbers that pass
 

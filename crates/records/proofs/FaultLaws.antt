@@ -7,12 +7,12 @@ use Prim.Native.Nat.{ℕ, _-_, _<_}
 use native.Mathlib.Nat.{zero-add}
 use native.Mathlib.Omega.{arith}
 use lib.Dec.{T}
-use Rattle.records.specs.Below.{anyBelow, _==_, _<?_}
+use Rattle.below.specs.Below.{anyBelow, _==_, _<?_}
 use Rattle.records.specs.Record.{spanOf, isCall, cellOf}
 use Rattle.records.specs.Rules.{unknownCall, openEnd, gapped}
-use Rattle.records.proofs.BelowLaws.{eq-==, both, or-left, or-right, anyBelow-of, lt-<?}
+use Rattle.below.proofs.BelowLaws.{eq-==, both, or-left, or-right, anyBelow-of, lt-<?}
 use Rattle.records.proofs.ByteLaws.{cell-small}
-use Rattle.records.proofs.SearchLaws.{false-T}
+use Rattle.below.proofs.SearchLaws.{false-T}
 use Rattle.records.proofs.ExtentLaws.{Extent, call-of, gap-within}
 
 module _ (r : List ℕ) (known : unknownCall r ≡ false) (shut : openEnd r ≡ false) where

@@ -8,11 +8,11 @@ use native.Mathlib.Omega.{arith}
 use native.Mathlib.Decide.{decLe}
 use lib.ListN.{length, getD, take, drop}
 use lib.Seq.{getD-drop}
-use Rattle.records.specs.Below.{if_then_else_, tab, _<?_, _≤?_, _and_}
-use Rattle.records.specs.Record.{littleEndian, tagOf, startOf, spanOf, cellOf, cellBytesOf, copiedCell, copiedCode, codeAt}
-use Rattle.records.proofs.RowLaws.{tab-ext}
+use Rattle.below.specs.Below.{if_then_else_, tab, _<?_, _≤?_, _and_}
+use Rattle.records.specs.Record.{littleEndian, tagOf, startOf, spanOf, cellOf, cellBytesOf, copiedCell, codeAt}
+use Rattle.below.proofs.RowLaws.{tab-ext}
 use Rattle.records.proofs.ByteLaws.{cell-in, cell-past}
-use Rattle.records.proofs.BelowLaws.{length-tab, getD-tab, if-ind, if-true, if-false, le-isnt, both, left-of, right-of, isnt-T, T-isnt, lt-<?, <?-lt, le-≤?, ≤?-le}
+use Rattle.below.proofs.BelowLaws.{length-tab, getD-tab, if-ind, if-true, if-false, le-isnt, both, left-of, right-of, isnt-T, T-isnt, lt-<?, <?-lt, le-≤?, ≤?-le}
 
 two-bytes : (l : List ℕ) → littleEndian (take 2 l) ≡ getD l 0 0 + 256 * getD l 1 0
 unfolding littleEndian
@@ -83,21 +83,6 @@ codeAt-out r c f =
 pub codeAt-nil : (c : ℕ) → codeAt [] c ≡ 0
 unfolding startOf spanOf littleEndian
 codeAt-nil c = codeAt-out [] c (λ h. h)
-
--- the same by start, span and a copy of the cell bytes
-pub copied-code-in : (s k : ℕ) (copy : List ℕ) (c : ℕ) → s ≤ c → c < s + k → copiedCode s k copy c ≡ copiedCell copy (c - s)
-unfolding copiedCode
-copied-code-in s k copy c a b = if-true (s ≤? c and c <? s + k) _ _ (both _ _ (le-≤? s c a) (lt-<? c (s + k) b))
-
-pub copied-code-out : (s k : ℕ) (copy : List ℕ) (c : ℕ) → (s ≤ c → s + k ≤ c) → copiedCode s k copy c ≡ 0
-unfolding copiedCode
-copied-code-out s k copy c f =
-    if-false (s ≤? c and c <? s + k) _ _
-    (isnt-T _ (λ t. let a = f (≤?-le _ _ (left-of _ _ t)) in let b = <?-lt _ _ (right-of _ _ t) in absurd (omega arith)))
-
-pub copied-code : (r : List ℕ) {s k : ℕ} {copy : List ℕ} (c : ℕ) → s ≡ startOf r → k ≡ spanOf r → copy ≡ cellBytesOf r → copiedCode s k copy c ≡ codeAt r c
-unfolding copiedCode codeAt
-copied-code r c es ek e = rw (es, ek, copied-cell r _ (c - startOf r) e)
 
 -- a cleared row of w columns, with the cells written from the start to the least of the span's end, n and w
 row-code : (r : List ℕ) (n w : ℕ) {s k end : ℕ} {copy row : List ℕ}

@@ -5,13 +5,13 @@ use mathlib.Core.List.{List, _∷_, List·Memᴰ}
 use Prim.Native.Nat.{ℕ, _%_, _≤_, _<_}
 use lib.Dec.{T}
 use lib.ListN.{length}
-use Rattle.records.specs.Below.{isnt, tab, concat}
+use Rattle.below.specs.Below.{isnt, tab, concat}
 use Rattle.records.specs.Record.{tagOf}
 use Rattle.records.specs.Table.{fragments, recordAt}
 use Rattle.records.specs.Outcome.{Verdict, accepted}
 use Rattle.records.specs.Rules.{Rule, decide, gapped, tagTwice, recordRules, sizeRules}
-use Rattle.records.proofs.BelowLaws.{is-false, T-isnt-isnt, none-of, eq-==, ne-isnt, le-isnt}
-use Rattle.records.proofs.MemberLaws.{concat-at, tab-at}
+use Rattle.below.proofs.BelowLaws.{is-false, T-isnt-isnt, none-of, eq-==, ne-isnt, le-isnt}
+use Rattle.below.proofs.MemberLaws.{concat-at, tab-at}
 use Rattle.records.proofs.RuleLaws.{rule-kept, decide-none, unbroken, all-unbroken}
 use Rattle.records.proofs.PackLaws.{Sound}
 

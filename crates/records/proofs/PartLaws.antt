@@ -7,7 +7,7 @@ use native.Mathlib.Nat.{add-comm}
 use lib.ListN.{length, take, drop}
 use denote.Ref.{RefT, now}
 use Rattle.records.specs.Table.{fragments, recordAt, Part, partStart, partLength}
-use Rattle.records.proofs.SearchLaws.{<?-true, <?-false}
+use Rattle.below.proofs.SearchLaws.{<?-true, <?-false}
 
 module _ (t : List ℕ) (i : ℕ) where
   pub start-in : i < fragments t → partStart t i ≡ 32 * i

@@ -8,11 +8,11 @@ use Prim.Native.Nat.{ℕ, suc, _+_, _-_, _≤_, _<_}
 use native.Mathlib.Nat.{sub-zero}
 use native.Mathlib.Numerals.{add-one}
 use native.Mathlib.Omega.{arith}
-use Rattle.records.specs.Below.{if_then_else_, isnt, tab, tabFrom, concat}
+use Rattle.below.specs.Below.{if_then_else_, isnt, tab, tabFrom, concat}
 use Rattle.records.specs.Outcome.{Verdict, accepted, refused}
 use Rattle.records.specs.Rules.{Rule, decide}
-use Rattle.records.proofs.BelowLaws.{is-false}
-use Rattle.records.proofs.MemberLaws.{concat-of}
+use Rattle.below.proofs.BelowLaws.{is-false}
+use Rattle.below.proofs.MemberLaws.{concat-of}
 
 -- ---- one rule
 

@@ -7,12 +7,12 @@ use native.Mathlib.Nat.{mul-comm}
 use native.Mathlib.Omega.{arith}
 use lib.ListN.{length, getD, take, drop, length-drop}
 use lib.Seq.{getD-take, getD-drop, length-take-le}
-use Rattle.records.specs.Below.{tab, concat}
+use Rattle.below.specs.Below.{tab, concat}
 use Rattle.records.specs.Record.{tagOf, codeAt}
 use Rattle.records.specs.Table.{fragments, recordAt, unpackedCells, unpackedTags}
 use Rattle.records.specs.Writing.{callsSpan, recordOf, rowOf, packed}
-use Rattle.records.proofs.BelowLaws.{length-tab, getD-tab}
-use Rattle.records.proofs.RowLaws.{tab-ext, tab-again, cells-again, rows-whole, length-laid-out, row-laid, length-flat, flat-at}
+use Rattle.below.proofs.BelowLaws.{length-tab, getD-tab}
+use Rattle.below.proofs.RowLaws.{tab-ext, tab-again, cells-again, rows-whole, length-laid-out, row-laid, length-flat, flat-at}
 use Rattle.records.proofs.PackLaws.{Sound, length-recordOf, tag-recordOf, record-again, row-again, recordOf-same}
 
 -- ---- the records of a table

@@ -1,18 +1,28 @@
--- Paper 01's trials that concern records, every rule alone, and each two rules that one table can break together, as one computed statement.
+-- Paper 01's trials that concern records, those marked P first; then every rule alone, and each two rules that one table can break together: computed statements.
+-- A record is written as its tag, start, span and byte 7, and its cells in letters: - hole, A, B, # the code 3.
 -- Assumes nothing.
 use mathlib.Core.Path.{_≡_, refl}
 use mathlib.Core.Bool.{Bool}
 use mathlib.Core.List.{List, [], _∷_, _++_}
-use Prim.Native.Nat.{ℕ, suc, _-_}
+use Prim.Native.Nat.{ℕ, suc}
+use Prim.Native.String.{String}
 use lib.Dec.{eqb}
 use lib.ListN.{replicate}
-use Rattle.records.specs.Below.{if_then_else_, _==_, _<?_, _≤?_, _and_, _or_, isnt, anyBelow, sumBelow, firstBelow, endBelow, maxBelow, tab, tabFrom, concat}
+use Rattle.below.specs.Below.{if_then_else_, _==_, _<?_, _≤?_, _and_, _or_, isnt, anyBelow, sumBelow, firstBelow, endBelow, maxBelow, tab, tabFrom, concat}
 use Rattle.records.specs.Record.{littleEndian, tagOf, startOf, spanOf, byte7Of, isCall, cellOf, codeAt}
 use Rattle.records.specs.Table.{fragments, recordAt, position, columnCount, unpackedCells, unpackedTags}
-use Rattle.records.specs.Writing.{bytesOf, cellBytes, callsEnd, callsStart, callsSpan, cut, laidOut, recordOf, rowOf, packed, recoded, withCell}
+use Rattle.records.specs.Writing.{bytesOf, cellBytes, callsEnd, callsStart, callsSpan, cut, laidOut, recordOf, rowOf, packed}
 use Rattle.records.specs.Outcome.{Verdict, accepted, refused}
 use Rattle.records.specs.Rules.{decide, outOfFrame, strayBits, unknownCall, openEnd, gapIn, gapped, tagTwice, recordRules, tableRules, sizeRules, tableVerdict}
 use Rattle.records.proofs.TrialTools.{sameVerdict, sameList, filled, made}
+use Rattle.records.proofs.TrialText.{cells, byteOf}
+
+-- ---- records in letters
+
+-- a record whose first byte of cells has these letters, and whose other cells are holes: tag, start, span, byte 7
+frag : ℕ → ℕ → ℕ → ℕ → String → List ℕ
+unfolding made filled cells byteOf
+frag tag start span byte7 text = made tag start span byte7 (byteOf (cells text) ∷ [])
 
 -- ---- trials
 
@@ -21,90 +31,138 @@ pub data Trial : Type 0 where
   decides : ℕ → List ℕ → Verdict → Trial
   lists : List ℕ → List ℕ → Trial
 
+-- a trial passes; to unfold this unfolds all that a trial computes with
 passes : Trial → Bool
+unfolding cells frag made filled sameVerdict sameList
+    _==_ _<?_ _≤?_ _and_ _or_ isnt anyBelow sumBelow firstBelow endBelow maxBelow tab tabFrom concat
+    littleEndian tagOf startOf spanOf byte7Of isCall cellOf codeAt fragments recordAt position columnCount unpackedCells unpackedTags
+    bytesOf cellBytes callsEnd callsStart callsSpan cut laidOut recordOf rowOf packed
+    decide outOfFrame strayBits unknownCall openEnd gapIn gapped tagTwice recordRules tableRules sizeRules tableVerdict
 passes (decides n table v) = sameVerdict (tableVerdict n table) v
 passes (lists given expected) = sameList eqb given expected
 
 -- the places of the trials that fail, counted from i
 pub failing : ℕ → List Trial → List ℕ
+unfolding passes
 failing i [] = []
 failing i (t ∷ ts) = if passes t then failing (suc i) ts else i ∷ failing (suc i) ts
 
--- ---- records
+-- ---- paper 01's trials
 
--- cells by their letters, four to a byte: A at cell 0 is 1, at cell 1 is 4, and so on
-one : ℕ → List ℕ
-one cells = cells ∷ []
-
--- paper 01's printed table: AA-, BAA, -BB
+-- "AA-, BAA, -BB", by the printed bytes
 printed : List ℕ
-printed = made 10 0 2 0 (one 5) ++ made 11 0 3 0 (one 22) ++ made 12 1 2 0 (one 10)
+printed =
+    filled (0x0A ∷ 0x00 ∷ 0x00 ∷ 0x00 ∷ 0x00 ∷ 0x00 ∷ 0x02 ∷ 0x00 ∷ 0x05 ∷ [])
+    ++ filled (0x0B ∷ 0x00 ∷ 0x00 ∷ 0x00 ∷ 0x00 ∷ 0x00 ∷ 0x03 ∷ 0x00 ∷ 0x16 ∷ [])
+    ++ filled (0x0C ∷ 0x00 ∷ 0x00 ∷ 0x00 ∷ 0x01 ∷ 0x00 ∷ 0x02 ∷ 0x00 ∷ 0x0A ∷ [])
+
+-- what the entries marked P say of a table by itself, each under its line
+pub pTrials : List Trial
+unfolding printed
+pTrials =
+    -- P "the table above, for S, F and C"
+    decides 3 printed (accepted 3)
+    -- P "no records, n = 0: error-free, all counts 0"
+    ∷ decides 0 [] (accepted 0)
+    -- P "AB-, -AB, B-A: refusal 8 at 2"
+    ∷ decides 3 (frag 1 0 2 0 "AB" ++ frag 2 1 2 0 "AB" ++ frag 3 0 3 0 "B-A") (refused 8 2)
+    -- P "start + span = n accepted; n + 1 is refusal 4"
+    ∷ decides 3 (frag 1 1 2 0 "AA") (accepted 1)
+    ∷ decides 2 (frag 1 1 2 0 "AA") (refused 4 0)
+    ∷ []
+
+-- paper 01's trials marked P, so far as they concern records
+pub p-pass : failing 0 pTrials ≡ []
+unfolding failing pTrials
+p-pass = refl
+
+-- ---- other trials, by topic
 
 -- a record that keeps every rule, with tag 1
 good : List ℕ
-good = made 1 0 2 0 (one 5)
+good = frag 1 0 2 0 "AA"
 
-pub trials : List Trial
-trials =
-    -- the paper's
-    decides 3 printed (accepted 3)
-    ∷ decides 0 [] (accepted 0)
-    ∷ decides 3 (made 1 1 2 0 (one 5)) (accepted 1)
-    ∷ decides 2 (made 1 1 2 0 (one 5)) (refused 4 0)
-    ∷ decides 3 (made 1 0 2 0 (one 9) ++ made 2 1 2 0 (one 9) ++ made 3 0 3 0 (one 18)) (refused 8 2)
-    ∷ decides 96 (made 1 0 96 0 (replicate 24 85)) (accepted 1)
-    ∷ decides 128 (made 1 0 97 0 (replicate 24 85)) (refused 4 0)
-    -- each rule alone, in each of its cases
-    ∷ decides 128 good (accepted 1)
+-- paper 01, not marked P: "span 96 passes, 97 is 4"
+pub spanTrials : List Trial
+spanTrials =
+    decides 96 (made 1 0 96 0 (replicate 24 0x55)) (accepted 1)
+    ∷ decides 128 (made 1 0 97 0 (replicate 24 0x55)) (refused 4 0)
+    ∷ []
+
+-- each rule alone, in each of its cases
+pub aloneTrials : List Trial
+unfolding good
+aloneTrials =
+    decides 128 good (accepted 1)
     ∷ decides 129 [] (refused 3 0)
     ∷ decides 3 (good ++ 0 ∷ []) (refused 1 0)
     ∷ decides 3 (replicate 4128 0) (refused 2 0)
     ∷ decides 3 (made 1 0 0 0 []) (accepted 1)
     ∷ decides 3 (made 1 1 0 0 []) (refused 4 0)
     ∷ decides 3 (filled (1 ∷ 0 ∷ 0 ∷ 0 ∷ 0 ∷ 1 ∷ 2 ∷ 0 ∷ 5 ∷ [])) (refused 4 0)
-    ∷ decides 3 (made 1 0 2 1 (one 5)) (refused 5 0)
-    ∷ decides 3 (made 1 0 2 0 (one 21)) (refused 5 0)
-    ∷ decides 3 (made 1 0 2 0 (5 ∷ replicate 22 0 ++ 64 ∷ [])) (refused 5 0)
-    ∷ decides 3 (made 1 0 3 0 (one 29)) (refused 6 0)
-    ∷ decides 3 (made 1 0 3 0 (one 20)) (refused 7 0)
-    ∷ decides 3 (made 1 0 3 0 (one 5)) (refused 7 0)
-    ∷ decides 3 (made 1 0 3 0 (one 18)) (refused 8 0)
-    ∷ decides 3 (good ++ made 2 0 2 0 (one 5) ++ good) (refused 9 2)
-    -- two rules together: the sizes by 3, 1, 2
-    ∷ decides 129 (good ++ 0 ∷ []) (refused 3 0)
+    ∷ decides 3 (frag 1 0 2 1 "AA") (refused 5 0)
+    ∷ decides 3 (frag 1 0 2 0 "AAA") (refused 5 0)
+    ∷ decides 3 (made 1 0 2 0 (0x05 ∷ replicate 22 0 ++ 0x40 ∷ [])) (refused 5 0)
+    ∷ decides 3 (frag 1 0 3 0 "A#A") (refused 6 0)
+    ∷ decides 3 (frag 1 0 3 0 "-AA") (refused 7 0)
+    ∷ decides 3 (frag 1 0 3 0 "AA-") (refused 7 0)
+    ∷ decides 3 (frag 1 0 3 0 "B-A") (refused 8 0)
+    ∷ decides 3 (good ++ frag 2 0 2 0 "AA" ++ good) (refused 9 2)
+    ∷ []
+
+-- two rules together
+pub orderTrials : List Trial
+unfolding good
+orderTrials =
+    -- the sizes by 3, 1, 2
+    decides 129 (good ++ 0 ∷ []) (refused 3 0)
     ∷ decides 129 (replicate 4128 0) (refused 3 0)
     ∷ decides 3 (replicate 4129 0) (refused 1 0)
     ∷ decides 1 (good ++ 0 ∷ []) (refused 1 0)
-    -- two rules together in one record: 4 with 5, 6, 7, 8, 9
+    -- in one record: 4 with 5, 6, 7, 8, 9
     ∷ decides 3 (made 1 1 0 1 []) (refused 4 0)
-    ∷ decides 2 (made 1 0 3 0 (one 29)) (refused 4 0)
-    ∷ decides 2 (made 1 0 3 0 (one 20)) (refused 4 0)
-    ∷ decides 2 (made 1 0 3 0 (one 18)) (refused 4 0)
-    ∷ decides 2 (good ++ made 1 1 2 0 (one 5)) (refused 4 1)
+    ∷ decides 2 (frag 1 0 3 0 "A#A") (refused 4 0)
+    ∷ decides 2 (frag 1 0 3 0 "-AA") (refused 4 0)
+    ∷ decides 2 (frag 1 0 3 0 "B-A") (refused 4 0)
+    ∷ decides 2 (good ++ frag 1 1 2 0 "AA") (refused 4 1)
     -- 5 with 6, 7, 8, 9
-    ∷ decides 3 (made 1 0 3 1 (one 29)) (refused 5 0)
-    ∷ decides 3 (made 1 0 3 1 (one 20)) (refused 5 0)
-    ∷ decides 3 (made 1 0 3 1 (one 18)) (refused 5 0)
-    ∷ decides 3 (good ++ made 1 0 2 1 (one 5)) (refused 5 1)
+    ∷ decides 3 (frag 1 0 3 1 "A#A") (refused 5 0)
+    ∷ decides 3 (frag 1 0 3 1 "-AA") (refused 5 0)
+    ∷ decides 3 (frag 1 0 3 1 "B-A") (refused 5 0)
+    ∷ decides 3 (good ++ frag 1 0 2 1 "AA") (refused 5 1)
     -- 6 with 7, 8, 9
-    ∷ decides 3 (made 1 0 3 0 (one 12)) (refused 6 0)
-    ∷ decides 4 (made 1 0 4 0 (one 113)) (refused 6 0)
-    ∷ decides 3 (good ++ made 1 0 3 0 (one 29)) (refused 6 1)
+    ∷ decides 3 (frag 1 0 3 0 "-#-") (refused 6 0)
+    ∷ decides 4 (frag 1 0 4 0 "A-#A") (refused 6 0)
+    ∷ decides 3 (good ++ frag 1 0 3 0 "A#A") (refused 6 1)
     -- 7 with 8, 9; 8 with 9
-    ∷ decides 4 (made 1 0 4 0 (one 68)) (refused 7 0)
-    ∷ decides 3 (good ++ made 1 0 3 0 (one 20)) (refused 7 1)
-    ∷ decides 3 (good ++ made 1 0 3 0 (one 18)) (refused 8 1)
+    ∷ decides 4 (frag 1 0 4 0 "-A-A") (refused 7 0)
+    ∷ decides 3 (good ++ frag 1 0 3 0 "-AA") (refused 7 1)
+    ∷ decides 3 (good ++ frag 1 0 3 0 "B-A") (refused 8 1)
     -- an earlier record's later rule comes first
-    ∷ decides 3 (made 1 0 3 0 (one 18) ++ made 2 1 0 0 []) (refused 8 0)
-    -- cells and tags out and in again, the columns needed, and a tag's first position
-    ∷ lists (unpackedCells 3 printed) (1 ∷ 1 ∷ 0 ∷ 2 ∷ 1 ∷ 1 ∷ 0 ∷ 2 ∷ 2 ∷ [])
+    ∷ decides 3 (frag 1 0 3 0 "B-A" ++ made 2 1 0 0 []) (refused 8 0)
+    ∷ []
+
+-- cells and tags out and in again, the columns needed, and a tag's first position
+pub cellTrials : List Trial
+unfolding printed good
+cellTrials =
+    lists (unpackedCells 3 printed) (cells "AA-, BAA, -BB")
     ∷ lists (unpackedTags printed) (10 ∷ 11 ∷ 12 ∷ [])
-    ∷ lists (packed 3 (1 ∷ 1 ∷ 0 ∷ 2 ∷ 1 ∷ 1 ∷ 0 ∷ 2 ∷ 2 ∷ []) (10 ∷ 11 ∷ 12 ∷ [])) printed
-    ∷ lists (packed 3 (0 ∷ 0 ∷ 0 ∷ []) (7 ∷ [])) (made 7 0 0 0 [])
-    ∷ lists (withCell (made 1 0 3 0 (one 22)) 1 2) (made 1 0 3 0 (one 26))
+    ∷ lists (packed 3 (cells "AA-, BAA, -BB") (10 ∷ 11 ∷ 12 ∷ [])) printed
+    ∷ lists (packed 3 (cells "---") (7 ∷ [])) (made 7 0 0 0 [])
     ∷ lists (columnCount printed ∷ position 11 printed ∷ position 13 printed ∷ position 1 (good ++ good) ∷ []) (3 ∷ 1 ∷ 3 ∷ 0 ∷ [])
     ∷ []
 
-pub all-pass : failing 0 trials ≡ []
-unfolding littleEndian tagOf startOf spanOf byte7Of isCall cellOf codeAt fragments recordAt position columnCount unpackedCells unpackedTags bytesOf cellBytes callsEnd callsStart callsSpan cut laidOut recordOf rowOf packed recoded withCell decide outOfFrame strayBits unknownCall openEnd gapIn gapped tagTwice recordRules tableRules sizeRules tableVerdict _==_ _<?_ _≤?_ _and_ _or_ isnt anyBelow sumBelow firstBelow endBelow maxBelow tab tabFrom concat failing trials passes sameVerdict printed made filled one good sameList
-all-pass = refl
+-- all trials but those marked P
+pub otherTrials : List Trial
+unfolding spanTrials aloneTrials orderTrials cellTrials
+otherTrials = spanTrials ++ aloneTrials ++ orderTrials ++ cellTrials
+
+-- all of these
+pub others-pass : failing 0 otherTrials ≡ []
+unfolding failing otherTrials
+others-pass = refl
+
+-- all trials: paper 01's marked P, and the others
+pub all-pass : (failing 0 pTrials ≡ []) × (failing 0 otherTrials ≡ [])
+all-pass = (p-pass, others-pass)

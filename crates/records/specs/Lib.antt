@@ -1,6 +1,6 @@
-pub mod Below
 pub mod Record
 pub mod Table
 pub mod Writing
 pub mod Outcome
 pub mod Rules
+pub mod Algorithm

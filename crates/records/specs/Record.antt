@@ -4,7 +4,7 @@ use Prim.Native.Nat.{ℕ, _+_, _*_, _-_, _/_, _%_, _^_}
 use mathlib.Core.Bool.{Bool}
 use mathlib.Core.List.{List, [], _∷_}
 use lib.ListN.{getD, take, drop}
-use Rattle.records.specs.Below.{if_then_else_, _==_, _<?_, _≤?_, _and_, _or_, tab}
+use Rattle.below.specs.Below.{if_then_else_, _==_, _<?_, _≤?_, _and_, _or_, tab}
 
 -- "numbers are little-endian": the number whose bytes these are
 unfoldable pub littleEndian : List ℕ → ℕ
@@ -46,7 +46,3 @@ copiedCell copy i = if i <? 96 then getD copy (i / 4) 0 / 4 ^ (i % 4) % 4 else 0
 -- the code at a column: "cell i of the span belongs to column start + i", and a hole stands outside the span
 unfoldable pub codeAt : List ℕ → ℕ → ℕ
 codeAt r c = if startOf r ≤? c and c <? startOf r + spanOf r then cellOf r (c - startOf r) else 0
-
--- the code at a column, by start, span and a copy of the cell bytes
-unfoldable pub copiedCode : ℕ → ℕ → List ℕ → ℕ → ℕ
-copiedCode start span copy c = if start ≤? c and c <? start + span then copiedCell copy (c - start) else 0

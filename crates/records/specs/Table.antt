@@ -5,7 +5,7 @@ use mathlib.Core.List.{List}
 use Prim.Native.Nat.{ℕ, _+_, _*_, _/_}
 use lib.ListN.{length, take, drop}
 use denote.Ref.{RefT, ptr, now}
-use Rattle.records.specs.Below.{if_then_else_, _==_, _<?_, firstBelow, maxBelow, tab, concat}
+use Rattle.below.specs.Below.{if_then_else_, _==_, _<?_, firstBelow, maxBelow, tab, concat}
 use Rattle.records.specs.Record.{tagOf, startOf, spanOf, codeAt}
 
 -- m, "fragments": how many whole records the bytes hold

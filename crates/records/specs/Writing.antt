@@ -1,11 +1,11 @@
--- Records written from calls, and one cell's code changed (paper 01, "Records and calls": "Pack does the reverse").
+-- Records written from calls (paper 01, "Records and calls": "Pack does the reverse").
 -- Assumes nothing.
 use mathlib.Core.Path.{_≡_}
 use mathlib.Core.Bool.{Bool}
 use mathlib.Core.List.{List, [], _∷_, _++_}
 use Prim.Native.Nat.{ℕ, zero, suc, _+_, _*_, _-_, _/_, _%_, _^_}
 use lib.ListN.{length, getD, set}
-use Rattle.records.specs.Below.{if_then_else_, _==_, _<?_, _≤?_, _and_, isnt, anyBelow, sumBelow, firstBelow, endBelow, tab, concat}
+use Rattle.below.specs.Below.{if_then_else_, _==_, _<?_, _≤?_, _and_, isnt, anyBelow, sumBelow, firstBelow, endBelow, tab, concat}
 use Rattle.records.specs.Record.{isCall}
 
 -- k little-endian bytes of a number
@@ -61,20 +61,3 @@ rowOf n cells i c = getD cells (i * n + c) 0
 -- pack's table, from m × n cells and m tags
 unfoldable pub packed : ℕ → List ℕ → List ℕ → List ℕ
 packed n cells tags = concat (tab (length tags) (λ i. recordOf n (getD tags i 0) (rowOf n cells i)))
-
--- a byte with the code k in its two bits from bit 2q
-unfoldable pub recoded : ℕ → ℕ → ℕ → ℕ
-recoded b q k = b - b / 4 ^ q % 4 * 4 ^ q + k * 4 ^ q
-
--- a record with the code k in cell i, "and no other bit is changed"
-unfoldable pub withCell : List ℕ → ℕ → ℕ → List ℕ
-withCell r i k = set r (8 + i / 4) (recoded (getD r (8 + i / 4) 0) (i % 4) k)
-
--- cell i is one of the 96, its byte is there, and k is a code with a meaning
-unfoldable pub settable : List ℕ → ℕ → ℕ → Bool
-settable r i k = i <? 96 and 8 + i / 4 <? length r and k ≤? 2
-
--- what setting a cell did: `done` where the cell was set, else the bytes are the old ones
-pub record CellSet (i k : ℕ) (old new : List ℕ) (done : Bool) : Type 0 where
-  pub answer : done ≡ settable old i k
-  pub bytes : new ≡ if done then withCell old i k else old

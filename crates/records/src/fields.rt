@@ -1,7 +1,7 @@
 // A record's fields and cells. Each reader takes any bytes: one past the end counts as 0.
 ghost use mathlib.Core.Path.{_≡_};
 ghost use lib.ListN.{getD};
-ghost use Rattle.records.specs.Record.{tagOf, startOf, spanOf, byte7Of, cellOf, cellBytesOf, copiedCell, copiedCode, codeAt};
+ghost use Rattle.records.specs.Record.{isCall, tagOf, startOf, spanOf, byte7Of, cellOf, cellBytesOf, copiedCell};
 
 // Byte i, or 0 past the end.
 pub fn byte(part: &[u8], i: usize) -> u8
@@ -44,6 +44,16 @@ pub fn byte7(part: &[u8]) -> u8
     byte(part, 7)
 }
 
+// A or B.
+pub fn is_call(code: u8) -> bool
+    ensures { λ r. ⌜ r ≡ isCall code ⌝ }
+{
+    if code == 1 {
+        return true;
+    }
+    code == 2
+}
+
 // A copy of bytes 8 to 31.
 pub(crate) fn cell_bytes(part: &[u8]) -> [u8; 24]
     ensures { λ r. ⌜ r ≡ cellBytesOf (now (part .entry)) ⌝ }
@@ -74,28 +84,4 @@ pub fn cell(part: &[u8], i: usize) -> u8
 {
     let copy = cell_bytes(part);
     copied_cell(&copy, i)
-}
-
-// The code at column c of a record with this start, span and copy of the cell bytes; a hole outside the span.
-fn copied_code(start: usize, span: usize, copy: &[u8; 24], c: usize) -> u8
-    ensures { λ r. ⌜ r ≡ copiedCode start span (now (copy .entry)) c ⌝ }
-{
-    if c < start {
-        return 0;
-    }
-    let i = c - start;
-    if span <= i {
-        return 0;
-    }
-    copied_cell(copy, i)
-}
-
-// The code at column c, a hole outside the span.
-pub fn code_at(part: &[u8], c: usize) -> u8
-    ensures { λ r. ⌜ r ≡ codeAt (now (part .entry)) c ⌝ }
-{
-    let s = start(part) as usize;
-    let k = span(part) as usize;
-    let copy = cell_bytes(part);
-    copied_code(s, k, &copy, c)
 }

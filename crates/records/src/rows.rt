@@ -1,8 +1,8 @@
 // A record's codes, column by column.
 ghost use mathlib.Core.Path.{_≡_};
 ghost use Prim.Native.Nat.{_-_, _≤_, min};
-ghost use lib.ListN.{length, getD};
-ghost use Rattle.records.specs.Below.{if_then_else_, _<?_, _≤?_, _and_, tab};
+ghost use lib.ListN.{length, getD, replicate};
+ghost use Rattle.below.specs.Below.{if_then_else_, _<?_, _≤?_, _and_, tab};
 ghost use Rattle.records.specs.Record.{copiedCell, codeAt};
 use crate::fields::cell_bytes;
 use crate::fields::copied_cell;
@@ -15,9 +15,9 @@ fn smaller(a: usize, b: usize) -> usize
     if a < b { a } else { b }
 }
 
-// Writes 0 to every column of a row.
-fn clear_row(row: &mut [u8])
-    ensures { λ _. ⌜ now (row .exit) ≡ tab (length (now (row .entry))) (λ c. 0) ⌝ }
+// Writes 0 to every byte.
+pub fn clear(row: &mut [u8])
+    ensures { λ _. ⌜ now (row .exit) ≡ replicate (length (now (row .entry))) 0 ⌝ }
 {
     let mut c = 0;
     while c < row.len() {
@@ -45,7 +45,7 @@ pub fn fill_row(n: usize, part: &[u8], row: &mut [u8])
     let s = start(part) as usize;
     let k = span(part) as usize;
     let copy = cell_bytes(part);
-    clear_row(row);
+    clear(row);
     let shown = smaller(n, row.len());
     let end = smaller(s + k, shown);
     write_cells(s, end, &copy, row);

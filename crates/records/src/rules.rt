@@ -1,7 +1,7 @@
 // The rules of a table, tested in the paper's order.
 ghost use mathlib.Core.Path.{_≡_};
 ghost use Prim.Native.Nat.{_<_, _≤_};
-ghost use Rattle.records.specs.Below.{_==_, _≤?_, _and_, isnt, anyBelow};
+ghost use Rattle.below.specs.Below.{_==_, _≤?_, _and_, isnt, anyBelow};
 ghost use Rattle.records.specs.Record.{tagOf, spanOf, cellOf, copiedCell};
 ghost use Rattle.records.specs.Table.{fragments, recordAt};
 ghost use Rattle.records.specs.Outcome.{accepted, outcomeOf};

@@ -7,13 +7,13 @@ use Prim.Native.Nat.{ℕ, _≤_, _<_}
 use native.Mathlib.Decide.{ℕ-discrete}
 use native.Mathlib.Omega.{arith}
 use lib.Dec.{T}
-use Rattle.records.specs.Below.{_==_, _and_, isnt, anyBelow}
+use Rattle.below.specs.Below.{_==_, _and_, isnt, anyBelow}
 use Rattle.records.specs.Record.{isCall}
 use Rattle.records.specs.Rules.{gapIn}
-use Rattle.records.proofs.BelowLaws.{both, left-of, right-of, or-left, or-right, or-cases, T-isnt, isnt-T, same-test, ==-eq, ==-refl, isnt-==, lt-<?, allBelow-at, anyBelow-at, anyBelow-of}
+use Rattle.below.proofs.BelowLaws.{both, left-of, right-of, or-left, or-right, or-cases, T-isnt, isnt-T, same-test, ==-eq, ==-refl, isnt-==, lt-<?, allBelow-at, anyBelow-at, anyBelow-of}
 use Rattle.conflicts.specs.Grid.{Grid, gapless}
-use Rattle.snp_removal.specs.Columns.{callsBoth, negation, columnsConflict}
-use Rattle.conflicts.specs.Matrix.{Gapless}
+use Rattle.snp_removal.specs.Algorithm.Columns.{callsBoth, negation, columnsConflict}
+use Rattle.matrix.specs.Algorithm.Matrix.{Gapless}
 
 -- ---- letters
 

@@ -6,14 +6,14 @@ use Prim.Native.Nat.{ℕ, zero, suc, _+_, _-_, _≤_}
 use native.Mathlib.Numerals.{add-one}
 use native.Mathlib.Omega.{arith}
 use lib.Dec.{T}
-use Rattle.records.specs.Below.{_and_, _or_, isnt, anyBelow}
+use Rattle.below.specs.Below.{_and_, _or_, isnt, anyBelow}
 use Rattle.records.specs.Record.{isCall}
-use Rattle.records.proofs.BelowLaws.{both, left-of, right-of, anyBelow-at, anyBelow-of}
-use Rattle.records.proofs.SearchLaws.{true-T, T-true, ==-true, ==-false}
+use Rattle.below.proofs.BelowLaws.{both, left-of, right-of, anyBelow-at, anyBelow-of}
+use Rattle.below.proofs.SearchLaws.{true-T, T-true, ==-true, ==-false}
 use Rattle.conflicts.specs.Grid.{Grid}
 use Rattle.snp_removal.specs.declared.columns.Pairs.{Pairs}
-use Rattle.snp_removal.specs.Columns.{callsBoth, columnsConflict, mayFollow}
-use Rattle.snp_removal.specs.Pairs.{withCalls, bothKinds, pairsOf}
+use Rattle.snp_removal.specs.Algorithm.Columns.{callsBoth, columnsConflict, mayFollow}
+use Rattle.snp_removal.specs.Algorithm.Pairs.{withCalls, bothKinds, pairsOf}
 use Rattle.snp_removal.proofs.ColumnLaws.{sameLetter, otherLetter, conflict-kinds}
 
 -- ---- one fragment more

@@ -8,16 +8,16 @@ use native.Mathlib.Nat.{two-pow-succ}
 use native.Mathlib.Numerals.{add-one}
 use native.Mathlib.Omega.{arith}
 use lib.Pow.{pow-mono, pow-pos}
-use Rattle.records.specs.Below.{if_then_else_}
+use Rattle.below.specs.Below.{if_then_else_}
 use Rattle.conflicts.specs.Grid.{Grid, matrixGrid, mixed}
 use Rattle.ranks.specs.declared.rank.Rank.{Rank}
-use Rattle.ranks.specs.Weight.{top, place, AtMost}
-use Rattle.ranks.specs.Reading.{code, value, SumFits}
-use Rattle.ranks.specs.Tables.{Sweep}
+use Rattle.ranks.specs.Algorithm.Weight.{top, place, AtMost, removal}
+use Rattle.ranks.specs.Algorithm.Reading.{code, value, SumFits}
+use Rattle.ranks.specs.Algorithm.Tables.{Sweep}
 use Rattle.ranks.proofs.WeightLaws.{atMost-more}
 use Rattle.ranks.proofs.TableLaws.{parts-small}
-use Rattle.snp_removal.specs.Columns.{callsBoth, columnsConflict, mayFollow}
-use Rattle.snp_removal.specs.Programme.{removal, choose, leastWeight, ifMixed, Room, Holds}
+use Rattle.snp_removal.specs.Algorithm.Columns.{callsBoth, columnsConflict, mayFollow}
+use Rattle.snp_removal.specs.Algorithm.Programme.{chooseColumn, leastColumnWeight, ifMixed, ColumnRoom, HoldsColumns}
 use Rattle.snp_removal.proofs.ProgrammeLaws.{one, choose-small, programme-small}
 
 -- ---- room
@@ -71,31 +71,31 @@ mixed-weight g i j v may em eh eo ek eg ex = ex ∙ rw (em, eg, eo, eh, ek)
 -- ---- what the table holds
 
 module _ (g : Grid) where
-  pub holds-none : (v : ℕ → ℕ) → ((j : ℕ) → v j ≡ 0) → Holds g 0 v
-  unfolding leastWeight
+  pub holds-none : (v : ℕ → ℕ) → ((j : ℕ) → v j ≡ 0) → HoldsColumns g 0 v
+  unfolding leastColumnWeight
   holds-none v zeros = record { holds = λ j le. zeros j }
 
-  module _ (k i : ℕ) (v : ℕ → ℕ) (inside : k < g .n) (is : i ≡ g .n - 1 - k) (held : Holds g k v) where
-    pub holds-room : g .n ≤ 128 → Room i v
+  module _ (k i : ℕ) (v : ℕ → ℕ) (inside : k < g .n) (is : i ≡ g .n - 1 - k) (held : HoldsColumns g k v) where
+    pub holds-room : g .n ≤ 128 → ColumnRoom i v
     holds-room small = record {
-      room = λ j le. subst (AtMost 127 (place i - 1)) (sym (held .holds j (omega arith))) (subst (λ (x : ℕ). AtMost 127 (2 ^ x - 1) (leastWeight g k j))
+      room = λ j le. subst (AtMost 127 (place i - 1)) (sym (held .holds j (omega arith))) (subst (λ (x : ℕ). AtMost 127 (2 ^ x - 1) (leastColumnWeight g k j))
           (let q : 128 - (g .n - k) ≡ 127 - i = omega arith in q) (atMost-more (omega arith) (omega arith) (programme-small g small k j (omega arith))));
     }
 
-    opened : (j : ℕ) → leastWeight g (suc k) j ≡ choose (mixed g i) (mayFollow g j i) (removal i) (leastWeight g k (suc i)) (leastWeight g k j)
-    unfolding leastWeight
+    opened : (j : ℕ) → leastColumnWeight g (suc k) j ≡ chooseColumn (mixed g i) (mayFollow g j i) (removal i) (leastColumnWeight g k (suc i)) (leastColumnWeight g k j)
+    unfolding leastColumnWeight
     opened j = let at : i ≡ g .n - suc k = omega arith in rw at
 
     -- a mixed column, and one that is not
-    pub holds-mixed : (w : ℕ → ℕ) → mixed g i ≡ true → Sweep (ifMixed g i v) v w 0 (i + 1) → Holds g (k + 1) w
+    pub holds-mixed : (w : ℕ → ℕ) → mixed g i ≡ true → Sweep (ifMixed g i v) v w 0 (i + 1) → HoldsColumns g (k + 1) w
     holds-mixed w m s = record {
       holds = λ j le.
-          let here : v j ≡ leastWeight g k j = held .holds j (omega arith) in
-          let next : v (i + 1) ≡ leastWeight g k (suc i) = held .holds (i + 1) (omega arith) ∙ ap (leastWeight g k) (add-one i) in
+          let here : v j ≡ leastColumnWeight g k j = held .holds j (omega arith) in
+          let next : v (i + 1) ≡ leastColumnWeight g k (suc i) = held .holds (i + 1) (omega arith) ∙ ap (leastColumnWeight g k) (add-one i) in
           s .done j zero-le (omega arith) ∙ rw (here, next, add-one k, opened j, m);
     }
 
-    pub holds-plain : mixed g i ≡ false → Holds g (k + 1) v
+    pub holds-plain : mixed g i ≡ false → HoldsColumns g (k + 1) v
     holds-plain m = record { holds = λ j le. held .holds j (omega arith) ∙ rw (add-one k, opened j, m) }
 
 -- what the column makes of the table as it is now, at the next state, is what it makes of the table as it was
@@ -105,7 +105,7 @@ turn g i j s le = rw (s .rest j (λ lo hi. omega arith), s .rest (i + 1) (λ lo 
 -- whether a column may follow does not hang on how many columns there are
 pub mixed-any : (m n n′ : ℕ) (cells : List ℕ) (i : ℕ) (v : ℕ → ℕ) (j : ℕ) → ifMixed (matrixGrid m n cells) i v j ≡ ifMixed (matrixGrid m n′ cells) i v j
 unfolding mayFollow columnsConflict callsBoth matrixGrid
-mixed-any m n n′ cells i v j = ap (λ (b : Bool). choose true b (removal i) (v (i + 1)) (v j)) (follows j)
+mixed-any m n n′ cells i v j = ap (λ (b : Bool). chooseColumn true b (removal i) (v (i + 1)) (v j)) (follows j)
   where
     follows : (j : ℕ) → mayFollow (matrixGrid m n cells) j i ≡ mayFollow (matrixGrid m n′ cells) j i
     follows zero = refl

@@ -1,3 +1,1 @@
-pub mod Columns
-pub mod Pairs
-pub mod Programme
+pub mod Algorithm

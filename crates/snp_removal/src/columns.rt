@@ -1,26 +1,17 @@
 // Columns of a cell matrix, 128 cells to a fragment: which are mixed, and which are in conflict (paper 001, section 3.1).
 use conflicts::Tally;
+use records::is_call;
 ghost use mathlib.Core.Path.{_≡_};
 ghost use Prim.Native.Nat.{ℕ, _+_, _*_, _<_, _≤_};
 ghost use lib.ListN.{length, getD};
-ghost use Rattle.records.specs.Record.{isCall};
 ghost use Rattle.conflicts.specs.Grid.{matrixGrid, mixed};
-ghost use Rattle.snp_removal.specs.Columns.{columnsConflict, mayFollow};
-ghost use Rattle.snp_removal.specs.Pairs.{noPairs, withCalls, bothKinds};
+ghost use Rattle.snp_removal.specs.Algorithm.Columns.{columnsConflict, mayFollow};
+ghost use Rattle.snp_removal.specs.Algorithm.Pairs.{noPairs, withCalls, bothKinds};
 
 // Which kinds of fragments two columns have: those that call both with one letter, and those with two.
 struct Pairs {
     alike: bool,
     unlike: bool,
-}
-
-fn is_call(x: u8) -> bool
-    ensures { λ r. ⌜ r ≡ isCall x ⌝ }
-{
-    if x == 1 {
-        return true;
-    }
-    x == 2
 }
 
 impl Pairs {

@@ -5,7 +5,7 @@ ghost use lib.ListN.{length};
 ghost use Rattle.conflicts.specs.Choice.{zeros};
 ghost use Rattle.conflicts.specs.Grid.{matrixGrid};
 ghost use Rattle.conflicts.specs.Removal.{snpKeepMarks};
-ghost use Rattle.conflicts.specs.Matrix.{Gapless, Matrix};
+ghost use Rattle.matrix.specs.Algorithm.Matrix.{Gapless, Matrix};
 
 mod columns;
 mod programme;

@@ -5,12 +5,12 @@ use ranks::table;
 ghost use mathlib.Core.Path.{_≡_};
 ghost use Prim.Native.Nat.{ℕ, _+_, _-_, _<_, _≤_};
 ghost use lib.ListN.{length};
-ghost use Rattle.records.specs.Below.{tab};
+ghost use Rattle.below.specs.Below.{tab};
 ghost use Rattle.conflicts.specs.Grid.{matrixGrid};
-ghost use Rattle.ranks.specs.Weight.{place, digitAt, AtMost};
-ghost use Rattle.ranks.specs.Reading.{code, value};
-ghost use Rattle.ranks.specs.Tables.{at, Sweep};
-ghost use Rattle.snp_removal.specs.Programme.{removal, ifMixed, States, Room, Holds};
+ghost use Rattle.ranks.specs.Algorithm.Weight.{place, digitAt, AtMost, removal};
+ghost use Rattle.ranks.specs.Algorithm.Reading.{code, value};
+ghost use Rattle.ranks.specs.Algorithm.Tables.{at, Sweep};
+ghost use Rattle.snp_removal.specs.Algorithm.Programme.{ifMixed, States, ColumnRoom, HoldsColumns};
 
 // The least weight at state j with the mixed column i before the columns of the table, which costs `out` if it is removed.
 fn weight_at(
@@ -35,7 +35,7 @@ fn weight_at(
 
 // The mixed column i, at every state before it.
 fn column(m: usize, cells: &[u8], counts: &mut [u16], highs: &mut [u64], lows: &mut [u64], i: usize)
-    requires { ⌜ (length (now cells) ≡ 16384) × (m ≤ 128) × (i < 128) × States (now counts) (now highs) (now lows) × Room i (at (now counts) (now highs) (now lows)) ⌝ }
+    requires { ⌜ (length (now cells) ≡ 16384) × (m ≤ 128) × (i < 128) × States (now counts) (now highs) (now lows) × ColumnRoom i (at (now counts) (now highs) (now lows)) ⌝ }
     ensures { λ _. ⌜ ((n : ℕ) → Sweep (ifMixed (matrixGrid m n (now (cells .entry))) i (at (now (counts .entry)) (now (highs .entry)) (now (lows .entry))))
         (at (now (counts .entry)) (now (highs .entry)) (now (lows .entry))) (at (now (counts .exit)) (now (highs .exit)) (now (lows .exit))) 0 (i + 1)) ⌝ }
 {
@@ -60,8 +60,8 @@ fn extend(
     k: usize,
 )
     requires { ⌜ (length (now cells) ≡ 16384) × (m ≤ 128) × (n ≤ 128) × (k < n) × States (now counts) (now highs) (now lows)
-        × Holds (matrixGrid m n (now cells)) k (at (now counts) (now highs) (now lows)) ⌝ }
-    ensures { λ _. ⌜ Holds (matrixGrid m n (now (cells .entry))) (k + 1) (at (now (counts .exit)) (now (highs .exit)) (now (lows .exit))) ⌝ }
+        × HoldsColumns (matrixGrid m n (now cells)) k (at (now counts) (now highs) (now lows)) ⌝ }
+    ensures { λ _. ⌜ HoldsColumns (matrixGrid m n (now (cells .entry))) (k + 1) (at (now (counts .exit)) (now (highs .exit)) (now (lows .exit))) ⌝ }
 {
     let i = n - 1 - k;
     if columns::column_mixed(m, cells, i) {
@@ -79,8 +79,8 @@ pub(crate) fn suffixes(
     lows: &mut [u64],
 )
     requires { ⌜ (length (now cells) ≡ 16384) × (m ≤ 128) × (n ≤ 128) × States (now counts) (now highs) (now lows)
-        × Holds (matrixGrid m n (now cells)) 0 (at (now counts) (now highs) (now lows)) ⌝ }
-    ensures { λ _. ⌜ Holds (matrixGrid m n (now (cells .entry))) n (at (now (counts .exit)) (now (highs .exit)) (now (lows .exit))) ⌝ }
+        × HoldsColumns (matrixGrid m n (now cells)) 0 (at (now counts) (now highs) (now lows)) ⌝ }
+    ensures { λ _. ⌜ HoldsColumns (matrixGrid m n (now (cells .entry))) n (at (now (counts .exit)) (now (highs .exit)) (now (lows .exit))) ⌝ }
 {
     let mut k = 0;
     while k < n {

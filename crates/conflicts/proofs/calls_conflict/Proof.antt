@@ -3,7 +3,7 @@
 use mathlib.Core.Path.{_≡_, refl}
 use mathlib.Core.Bool.{Bool, true, false}
 use borrow.Author.Tests.{ne-eqb}
-use Rattle.records.specs.Below.{_==_, _and_, _or_}
+use Rattle.below.specs.Below.{_==_, _and_, _or_}
 use Rattle.conflicts.specs.Grid.{callsConflict}
 use Rattle.conflicts.proofs.calls_conflict.Statement.{statement}
 use Rattle.conflicts.proofs.calls_conflict.Tie as tie

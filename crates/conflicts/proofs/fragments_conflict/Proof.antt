@@ -7,10 +7,10 @@ use Prim.Native.Nat.{ℕ, _-_, _≤_}
 use lib.ListN.{length, getD}
 use borrow.Author.Needs.{needs}
 use native.Mathlib.Omega.{arith}
-use Rattle.records.specs.Below.{_and_}
+use Rattle.below.specs.Below.{_and_}
 use Rattle.conflicts.specs.Choice.{marked}
 use Rattle.conflicts.specs.Grid.{callsConflict, rowsConflict}
-use Rattle.records.proofs.SearchLaws.{NoneBelow, none-yet, none-more, any-hit, any-none}
+use Rattle.below.proofs.SearchLaws.{NoneBelow, none-yet, none-more, any-hit, any-none}
 use Rattle.conflicts.proofs.fragments_conflict.Statement.{statement}
 use Rattle.conflicts.proofs.fragments_conflict.Tie as tie
 

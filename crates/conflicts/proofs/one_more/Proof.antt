@@ -1,7 +1,7 @@
 -- `conflicts::one_more` meets its contract.
 -- Assumes nothing.
 use borrow.Author.Tests.{lt-ltb, le-ltb}
-use Rattle.records.specs.Below.{_<?_}
+use Rattle.below.specs.Below.{_<?_}
 use Rattle.conflicts.specs.Tally.{oneMore}
 use borrow.Author.Needs.{needs}
 use Rattle.conflicts.proofs.one_more.Statement.{statement}

@@ -1,7 +1,7 @@
 -- `conflicts::Tally::is_mixed` meets its contract.
 -- Assumes nothing.
 use borrow.Author.Tests.{lt-ltb, le-ltb}
-use Rattle.records.specs.Below.{_<?_, _and_}
+use Rattle.below.specs.Below.{_<?_, _and_}
 use Rattle.conflicts.specs.Tally.{mixedTally}
 use Rattle.conflicts.proofs.Tally.is_mixed.Statement.{statement}
 use Rattle.conflicts.proofs.Tally.is_mixed.Tie as tie

@@ -1,7 +1,7 @@
 -- `conflicts::Tally::with_call` meets its contract.
 -- Assumes nothing.
 use borrow.Author.Tests.{ne-eqb}
-use Rattle.records.specs.Below.{_==_}
+use Rattle.below.specs.Below.{_==_}
 use Rattle.conflicts.specs.Tally.{tallied}
 use borrow.Author.Needs.{needs}
 use Rattle.conflicts.proofs.Tally.with_call.Statement.{statement}

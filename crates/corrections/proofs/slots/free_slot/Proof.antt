@@ -4,19 +4,18 @@ use mathlib.Core.Path.{sym}
 use Prim.Native.Nat.{ℕ, _-_, _≤_}
 use native.Mathlib.Omega.{arith}
 use borrow.Author.Needs.{needs}
-use Rattle.records.specs.Below.{isnt}
-use Rattle.records.proofs.SearchLaws.{NoneBelow, none-yet, none-more, first-hit, first-none}
+use Rattle.below.specs.Below.{isnt, nth}
+use Rattle.below.proofs.SearchLaws.{NoneBelow, none-yet, none-more, first-hit, first-none}
 use Rattle.conflicts.specs.Grid.{matrixGrid}
-use Rattle.events.specs.Slots.{used, freeSlot}
-use Rattle.corrections.specs.Columns.{startOf, covers}
-use Rattle.corrections.specs.Sweep.{nth}
+use Rattle.events.specs.Algorithm.Slots.{used, freeSlot}
+use Rattle.corrections.specs.Algorithm.Columns.{firstColumn, covers}
 use Rattle.corrections.proofs.GrantLaws.{free-yes, free-no}
 use Rattle.corrections.proofs.slots.free_slot.Statement.{statement}
 use Rattle.corrections.proofs.slots.free_slot.Tie as tie
 
 abbrev Inv-loop : tie.InvT-loop
 Inv-loop m n cells starts ends slots c turn b₀ b =
-    (b ≤ 8) × NoneBelow b (λ (x : ℕ). isnt (used (startOf (matrixGrid m n cells)) (covers (matrixGrid m n cells)) m c turn (nth slots) x))
+    (b ≤ 8) × NoneBelow b (λ (x : ℕ). isnt (used (firstColumn (matrixGrid m n cells)) (covers (matrixGrid m n cells)) m c turn (nth slots) x))
 
 abbrev μ-loop : tie.MeasureT-loop
 μ-loop m n cells starts ends slots c turn b₀ b = 8 - b
@@ -32,7 +31,7 @@ unfolding freeSlot
 returns c =
     let l = c .before .before .before .loop in
     let a = c .before .before .before .before .before .before .before .before .args in
-    sym (first-hit 8 (λ (x : ℕ). isnt (used (startOf (matrixGrid (a .m) (a .n) (a .cells .now))) (covers (matrixGrid (a .m) (a .n) (a .cells .now))) (a .m) (a .c) (a .turn) (nth (a .slots .now)) x)) (l .b) (c .before .before .loop-test .taken) (l .inv .1) (free-yes (c .before .is-used .ensures) (c .if1 .taken)))
+    sym (first-hit 8 (λ (x : ℕ). isnt (used (firstColumn (matrixGrid (a .m) (a .n) (a .cells .now))) (covers (matrixGrid (a .m) (a .n) (a .cells .now))) (a .m) (a .c) (a .turn) (nth (a .slots .now)) x)) (l .b) (c .before .before .loop-test .taken) (l .inv .1) (free-yes (c .before .is-used .ensures) (c .if1 .taken)))
 
 add-b : tie.Need-add-b Inv-loop μ-loop
 add-b c = search needs
@@ -44,7 +43,7 @@ loop-again : tie.Need-loop-again Inv-loop μ-loop
 loop-again c =
     let l = c .before .before .before .loop in
     let a = c .before .before .before .before .before .before .before .before .args in
-    (search needs, none-more (l .b) (λ (x : ℕ). isnt (used (startOf (matrixGrid (a .m) (a .n) (a .cells .now))) (covers (matrixGrid (a .m) (a .n) (a .cells .now))) (a .m) (a .c) (a .turn) (nth (a .slots .now)) x)) (l .inv .1) (free-no (c .before .is-used .ensures) (c .if1 .left)))
+    (search needs, none-more (l .b) (λ (x : ℕ). isnt (used (firstColumn (matrixGrid (a .m) (a .n) (a .cells .now))) (covers (matrixGrid (a .m) (a .n) (a .cells .now))) (a .m) (a .c) (a .turn) (nth (a .slots .now)) x)) (l .inv .1) (free-no (c .before .is-used .ensures) (c .if1 .left)))
 
 returns-2 : tie.Need-returns-2 Inv-loop μ-loop
 unfolding freeSlot

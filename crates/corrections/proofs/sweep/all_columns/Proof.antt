@@ -6,10 +6,11 @@ use native.Mathlib.Nat.{le-refl}
 use native.Mathlib.Omega.{arith}
 use borrow.Author.Needs.{needs}
 use Rattle.conflicts.specs.Grid.{matrixGrid}
-use Rattle.ranks.specs.Tables.{at}
-use Rattle.events.specs.Events.{eventsFrom}
-use Rattle.corrections.specs.Columns.{startOf}
-use Rattle.corrections.specs.Sweep.{Patterns, HoldsAll}
+use Rattle.ranks.specs.Algorithm.Tables.{at}
+use Rattle.events.specs.Algorithm.Events.{eventsFrom}
+use Rattle.corrections.specs.Algorithm.Columns.{firstColumn}
+use Rattle.patterns.specs.Algorithm.Patterns.{Patterns}
+use Rattle.corrections.specs.Algorithm.Sweep.{HoldsAll}
 use Rattle.corrections.proofs.StepLaws.{holds-all}
 use Rattle.corrections.proofs.sweep.all_columns.Statement.{statement}
 use Rattle.corrections.proofs.sweep.all_columns.Tie as tie
@@ -17,7 +18,7 @@ use Rattle.corrections.proofs.sweep.all_columns.Tie as tie
 abbrev Inv-loop : tie.InvT-loop
 Inv-loop m n cells starts ends slots counts₀ highs₀ lows₀ c₀ counts highs lows c =
     (c ≤ n) × Patterns counts highs lows
-    × HoldsAll (matrixGrid m n cells) slots (eventsFrom (startOf (matrixGrid m n cells)) m c (n - c)) (at counts highs lows)
+    × HoldsAll (matrixGrid m n cells) slots (eventsFrom (firstColumn (matrixGrid m n cells)) m c (n - c)) (at counts highs lows)
 
 abbrev μ-loop : tie.MeasureT-loop
 μ-loop m n cells starts ends slots counts₀ highs₀ lows₀ c₀ counts highs lows c = c
@@ -39,7 +40,7 @@ column-requires c κs =
       s .pre .0,
       l .inv .1,
       omega arith,
-      subst (λ (x : ℕ). HoldsAll (matrixGrid (a .m) (a .n) (a .cells .now)) (a .slots .now) (eventsFrom (startOf (matrixGrid (a .m) (a .n) (a .cells .now))) (a .m) x (a .n - x)) (at (l .counts) (l .highs) (l .lows))) e (l .inv .2),
+      subst (λ (x : ℕ). HoldsAll (matrixGrid (a .m) (a .n) (a .cells .now)) (a .slots .now) (eventsFrom (firstColumn (matrixGrid (a .m) (a .n) (a .cells .now))) (a .m) x (a .n - x)) (at (l .counts) (l .highs) (l .lows))) e (l .inv .2),
     )
 
 loop-less : tie.Need-loop-less Inv-loop μ-loop

@@ -6,10 +6,11 @@ use native.Mathlib.Nat.{le-refl}
 use native.Mathlib.Omega.{arith}
 use borrow.Author.Needs.{needs}
 use Rattle.conflicts.specs.Grid.{matrixGrid}
-use Rattle.ranks.specs.Tables.{at}
-use Rattle.events.specs.Events.{partOf}
-use Rattle.corrections.specs.Columns.{startOf}
-use Rattle.corrections.specs.Sweep.{Patterns, HoldsAll}
+use Rattle.ranks.specs.Algorithm.Tables.{at}
+use Rattle.events.specs.Algorithm.Events.{partOf}
+use Rattle.corrections.specs.Algorithm.Columns.{firstColumn}
+use Rattle.patterns.specs.Algorithm.Patterns.{Patterns}
+use Rattle.corrections.specs.Algorithm.Sweep.{HoldsAll}
 use Rattle.corrections.proofs.GrantLaws.{zeros-at, gathered-none}
 use Rattle.corrections.proofs.StepLaws.{column-room, step-charge, step-column}
 use Rattle.corrections.proofs.sweep.column.Statement.{statement}
@@ -18,7 +19,7 @@ use Rattle.corrections.proofs.sweep.column.Tie as tie
 abbrev Inv-loop : tie.InvT-loop
 Inv-loop m n cells starts ends slots counts₀ highs₀ lows₀ c f₀ counts highs lows f =
     (f ≤ m) × Patterns counts highs lows
-    × HoldsAll (matrixGrid m n cells) slots (partOf (startOf (matrixGrid m n cells)) m c f (m - f) (n - (c + 1))) (at counts highs lows)
+    × HoldsAll (matrixGrid m n cells) slots (partOf (firstColumn (matrixGrid m n cells)) m c f (m - f) (n - (c + 1))) (at counts highs lows)
 
 abbrev μ-loop : tie.MeasureT-loop
 μ-loop m n cells starts ends slots counts₀ highs₀ lows₀ c f₀ counts highs lows f = f
@@ -70,7 +71,7 @@ enter-if-requires c κs =
       l .inv .1,
       s .pre .2,
       omega arith,
-      subst (λ (x : ℕ). HoldsAll (matrixGrid (a .m) (a .n) (a .cells .now)) (a .slots .now) (partOf (startOf (matrixGrid (a .m) (a .n) (a .cells .now))) (a .m) (a .c) x (a .m - x) (a .n - (a .c + 1))) (at (l .counts) (l .highs) (l .lows))) e (l .inv .2),
+      subst (λ (x : ℕ). HoldsAll (matrixGrid (a .m) (a .n) (a .cells .now)) (a .slots .now) (partOf (firstColumn (matrixGrid (a .m) (a .n) (a .cells .now))) (a .m) (a .c) x (a .m - x) (a .n - (a .c + 1))) (at (l .counts) (l .highs) (l .lows))) e (l .inv .2),
     )
 
 loop-less : tie.Need-loop-less Inv-loop μ-loop

@@ -3,9 +3,9 @@
 use mathlib.Core.Path.{ap}
 use Prim.Native.Nat.{ℕ, _+_, _-_}
 use borrow.Author.Needs.{needs}
-use Rattle.records.proofs.FillLaws.{Filled, filled-none, filled-more, filled-all}
-use Rattle.ranks.specs.Weight.{digitAt}
-use Rattle.ranks.specs.Reading.{code}
+use Rattle.below.proofs.FillLaws.{Filled, filled-none, filled-more, filled-all}
+use Rattle.ranks.specs.Algorithm.Weight.{digitAt}
+use Rattle.ranks.specs.Algorithm.Reading.{code}
 use Rattle.corrections.proofs.sweep.decode.Statement.{statement}
 use Rattle.corrections.proofs.sweep.decode.Tie as tie
 

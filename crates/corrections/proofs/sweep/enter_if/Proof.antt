@@ -5,7 +5,7 @@ use Prim.Native.Nat.{suc, _+_, _-_, _≤_}
 use native.Mathlib.Omega.{arith}
 use borrow.Author.Needs.{needs}
 use Rattle.conflicts.specs.Grid.{matrixGrid}
-use Rattle.ranks.specs.Tables.{at}
+use Rattle.ranks.specs.Algorithm.Tables.{at}
 use Rattle.corrections.proofs.StepLaws.{part-room, step-skip, step-enter}
 use Rattle.corrections.proofs.sweep.enter_if.Statement.{statement}
 use Rattle.corrections.proofs.sweep.enter_if.Tie as tie

@@ -5,7 +5,7 @@ use Prim.Native.Nat.{ℕ, _-_, _≤_, zero-le}
 use native.Mathlib.Omega.{arith}
 use borrow.Author.Needs.{needs}
 use Rattle.conflicts.specs.Grid.{matrixGrid}
-use Rattle.corrections.specs.Sweep.{Gathered}
+use Rattle.corrections.specs.Algorithm.Sweep.{Gathered}
 use Rattle.corrections.proofs.sweep.gather.Statement.{statement}
 use Rattle.corrections.proofs.sweep.gather.Tie as tie
 

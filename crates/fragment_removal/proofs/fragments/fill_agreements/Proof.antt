@@ -5,10 +5,10 @@ use Prim.Native.Nat.{_-_, _≤_}
 use native.Mathlib.Omega.{arith}
 use lib.ListN.{length}
 use borrow.Author.Needs.{needs}
-use Rattle.records.specs.Below.{bit}
+use Rattle.below.specs.Below.{bit}
 use Rattle.conflicts.specs.Grid.{matrixGrid}
-use Rattle.fragment_removal.specs.Fragments.{Begins, entries}
-use Rattle.fragment_removal.specs.Programme.{mayJoin}
+use Rattle.fragment_removal.specs.Algorithm.Fragments.{Begins, entries}
+use Rattle.fragment_removal.specs.Algorithm.Programme.{mayJoin}
 use Rattle.fragment_removal.proofs.OrderLaws.{begins-none, begins-more}
 use Rattle.fragment_removal.proofs.fragments.fill_agreements.Statement.{statement}
 use Rattle.fragment_removal.proofs.fragments.fill_agreements.Tie as tie

@@ -4,7 +4,7 @@ use Prim.Native.Nat.{_-_}
 use native.Mathlib.Omega.{arith}
 use borrow.Author.Needs.{needs}
 use Rattle.conflicts.specs.Grid.{matrixGrid}
-use Rattle.fragment_removal.specs.Fragments.{entries}
+use Rattle.fragment_removal.specs.Algorithm.Fragments.{entries}
 use Rattle.fragment_removal.proofs.ReadLaws.{join-none, join-no, join-yes}
 use Rattle.fragment_removal.proofs.fragments.may_join.Statement.{statement}
 use Rattle.fragment_removal.proofs.fragments.may_join.Tie as tie

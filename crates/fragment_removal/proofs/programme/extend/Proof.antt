@@ -5,10 +5,10 @@ use Prim.Native.Nat.{_-_}
 use native.Mathlib.Omega.{arith}
 use borrow.Author.Needs.{needs}
 use Rattle.conflicts.specs.Grid.{matrixGrid}
-use Rattle.ranks.specs.Reading.{value}
-use Rattle.fragment_removal.specs.Fragments.{entries}
-use Rattle.fragment_removal.specs.Programme.{mayJoin}
-use Rattle.fragment_removal.specs.Pairs.{pairs}
+use Rattle.ranks.specs.Algorithm.Reading.{value}
+use Rattle.fragment_removal.specs.Algorithm.Fragments.{entries}
+use Rattle.fragment_removal.specs.Algorithm.Programme.{mayJoin}
+use Rattle.fragment_removal.specs.Algorithm.Pairs.{pairs}
 use Rattle.fragment_removal.proofs.OrderLaws.{inside}
 use Rattle.fragment_removal.proofs.PairLaws.{removal-of, begins-marks, holds-room, holds-more}
 use Rattle.fragment_removal.proofs.programme.extend.Statement.{statement}

@@ -6,11 +6,11 @@ use native.Mathlib.Omega.{arith}
 use lib.ListN.{length}
 use borrow.Author.Needs.{needs}
 use Rattle.conflicts.specs.Choice.{marked}
-use Rattle.ranks.specs.Reading.{value}
-use Rattle.ranks.specs.Tables.{at}
-use Rattle.fragment_removal.specs.Fragments.{entries}
-use Rattle.fragment_removal.specs.Programme.{withFragment}
-use Rattle.fragment_removal.specs.Pairs.{pairs, Rows}
+use Rattle.ranks.specs.Algorithm.Reading.{value}
+use Rattle.ranks.specs.Algorithm.Tables.{at}
+use Rattle.fragment_removal.specs.Algorithm.Fragments.{entries}
+use Rattle.fragment_removal.specs.Algorithm.Programme.{withFragment}
+use Rattle.fragment_removal.specs.Algorithm.Pairs.{pairs, Rows}
 use Rattle.fragment_removal.proofs.PairLaws.{rows-none, rows-more, rows-room}
 use Rattle.fragment_removal.proofs.programme.layer.Statement.{statement}
 use Rattle.fragment_removal.proofs.programme.layer.Tie as tie

@@ -4,7 +4,7 @@ use mathlib.Core.Path.{_∙_}
 use Prim.Native.Nat.{zero-le}
 use borrow.Author.Needs.{needs}
 use Rattle.conflicts.specs.Grid.{matrixGrid}
-use Rattle.fragment_removal.specs.Fragments.{entries}
+use Rattle.fragment_removal.specs.Algorithm.Fragments.{entries}
 use Rattle.fragment_removal.proofs.PairLaws.{zeros-pairs, holds-none}
 use Rattle.fragment_removal.proofs.ReadLaws.{cleared-as}
 use Rattle.fragment_removal.proofs.FragmentLaws.{rank-marks}

@@ -6,12 +6,12 @@ use native.Mathlib.Omega.{arith}
 use lib.ListN.{length}
 use borrow.Author.Needs.{needs}
 use Rattle.conflicts.specs.Choice.{marked}
-use Rattle.ranks.specs.Reading.{value}
-use Rattle.ranks.specs.Tables.{at, Sweep}
+use Rattle.ranks.specs.Algorithm.Reading.{value}
+use Rattle.ranks.specs.Algorithm.Tables.{at, Sweep}
 use Rattle.ranks.proofs.TableLaws.{put-as, sweep-more}
-use Rattle.fragment_removal.specs.Fragments.{entries}
-use Rattle.fragment_removal.specs.Programme.{withFragment}
-use Rattle.fragment_removal.specs.Pairs.{pairs, flat}
+use Rattle.fragment_removal.specs.Algorithm.Fragments.{entries}
+use Rattle.fragment_removal.specs.Algorithm.Programme.{withFragment}
+use Rattle.fragment_removal.specs.Algorithm.Pairs.{pairs, flat}
 use Rattle.fragment_removal.proofs.PairLaws.{row-weight, row-fits, furthest-range, sweep-none-at, sweep-at}
 use Rattle.fragment_removal.proofs.programme.row.Statement.{statement}
 use Rattle.fragment_removal.proofs.programme.row.Tie as tie

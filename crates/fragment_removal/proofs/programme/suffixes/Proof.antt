@@ -6,14 +6,14 @@ use native.Mathlib.Nat.{le-antisymm}
 use lib.ListN.{length}
 use borrow.Author.Needs.{needs}
 use Rattle.conflicts.specs.Grid.{matrixGrid}
-use Rattle.fragment_removal.specs.Fragments.{entries}
-use Rattle.fragment_removal.specs.Pairs.{pairs, Holds}
+use Rattle.fragment_removal.specs.Algorithm.Fragments.{entries}
+use Rattle.fragment_removal.specs.Algorithm.Pairs.{pairs, HoldsFragments}
 use Rattle.fragment_removal.proofs.programme.suffixes.Statement.{statement}
 use Rattle.fragment_removal.proofs.programme.suffixes.Tie as tie
 
 abbrev Inv-loop : tie.InvT-loop
 Inv-loop m n cells order reaches counts₀ highs₀ lows₀ k₀ counts highs lows k =
-    (k ≤ m) × (length counts ≡ length counts₀) × (length highs ≡ length highs₀) × (length lows ≡ length lows₀) × Holds (matrixGrid m n cells) (entries order) k (pairs counts highs lows)
+    (k ≤ m) × (length counts ≡ length counts₀) × (length highs ≡ length highs₀) × (length lows ≡ length lows₀) × HoldsFragments (matrixGrid m n cells) (entries order) k (pairs counts highs lows)
 
 abbrev μ-loop : tie.MeasureT-loop
 μ-loop m n cells order reaches counts₀ highs₀ lows₀ k₀ counts highs lows k = m - k
@@ -48,7 +48,7 @@ returns : tie.Need-returns Inv-loop μ-loop
 returns c =
     let l = c .before .loop in
     let a = c .before .before .before .before .before .before .before .before .args in
-    subst (λ (k : ℕ). Holds (matrixGrid (a .m) (a .n) (a .cells .now)) (entries (a .order .now)) k (pairs (l .counts) (l .highs) (l .lows))) (le-antisymm (l .inv .0) (c .loop-test .left)) (l .inv .4)
+    subst (λ (k : ℕ). HoldsFragments (matrixGrid (a .m) (a .n) (a .cells .now)) (entries (a .order .now)) k (pairs (l .counts) (l .highs) (l .lows))) (le-antisymm (l .inv .0) (c .loop-test .left)) (l .inv .4)
 
 pub suffixes-spec : {M : Type 1} → statement M
 suffixes-spec =

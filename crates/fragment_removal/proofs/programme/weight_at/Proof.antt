@@ -4,9 +4,9 @@ use mathlib.Core.Path.{refl, sym, ap, subst}
 use Prim.Native.Nat.{ℕ, _+_, _*_, _≤_}
 use borrow.Author.Needs.{needs}
 use Rattle.conflicts.specs.Choice.{marked}
-use Rattle.ranks.specs.Reading.{value}
-use Rattle.ranks.specs.Tables.{at}
-use Rattle.fragment_removal.specs.Fragments.{entries}
+use Rattle.ranks.specs.Algorithm.Reading.{value}
+use Rattle.ranks.specs.Algorithm.Tables.{at}
+use Rattle.fragment_removal.specs.Algorithm.Fragments.{entries}
 use Rattle.fragment_removal.proofs.PairLaws.{sum-fits, count-fits, chosen-weight, furthest-range}
 use Rattle.fragment_removal.proofs.programme.weight_at.Statement.{statement}
 use Rattle.fragment_removal.proofs.programme.weight_at.Tie as tie

@@ -1,8 +1,8 @@
 use Rattle.listing.proofs.AppendLaws.{appended-none, _⨾_, tab-more, as-text}
 use Rattle.listing.specs.Listing.{signOf}
-use Rattle.listing.specs.Appended.{Appended}
-use Rattle.records.proofs.BelowLaws.{length-tab}
-use Rattle.records.specs.Below.{tab, tabFrom}
+use Rattle.listing.specs.Algorithm.Appended.{Appended}
+use Rattle.below.proofs.BelowLaws.{length-tab}
+use Rattle.below.specs.Below.{tab, tabFrom}
 use borrow.Author.Needs.{needs}
 use lib.ListN.{getD}
 use native.Mathlib.Omega.{arith}
@@ -26,29 +26,25 @@ loop-holds : tie.Need-loop-holds Inv-loop μ-loop
 unfolding tab tabFrom
 loop-holds c = (omega arith, appended-none _ _)
 
-add-sign-at : tie.Need-add-sign-at Inv-loop μ-loop
-add-sign-at c = search needs
-
-sign-at-requires : tie.Need-sign-at-requires Inv-loop μ-loop
-sign-at-requires c κs = search needs
-
 put-byte-requires : tie.Need-put-byte-requires Inv-loop μ-loop
-put-byte-requires c κs = omega (arith, length-tab (c .before .before .before .loop .i) (codes (c .before .before .before .before .before .before .before .args .signs .now) (c .before .before .before .before .before .before .before .args .bytes .now) (c .before .before .before .before .before .before .before .args .from)))
-
-add-i : tie.Need-add-i Inv-loop μ-loop
-add-i c = search needs
-
-loop-less : tie.Need-loop-less Inv-loop μ-loop
-loop-less c = search needs
+put-byte-requires c κs =
+    let l = c .before .before .before .before in
+    let a = l .before .before .before .before .args in
+    omega (arith, length-tab (l .loop .i) (codes (a .signs .now) (a .bytes .now) (a .from)))
 
 loop-again : tie.Need-loop-again Inv-loop μ-loop
-loop-again c = let i = c .before .before .before .before .before .before .loop .i in let f = codes (c .before .before .before .before .before .before .before .before .before .before .args .signs .now) (c .before .before .before .before .before .before .before .before .before .before .args .bytes .now) (c .before .before .before .before .before .before .before .before .before .before .args .from) in (search needs, as-text (ap (λ (b : ℕ). tab i f ++ (b ∷ [])) (c .before .before .before .before .sign-at .ensures) ∙ sym (tab-more f i)) (c .before .before .before .before .before .before .loop .inv .1 ⨾ c .before .before .put-byte .ensures))
-
-same-length : tie.Need-same-length Inv-loop μ-loop
-same-length c = c .before .loop .inv .1 .sized
+unfolding signOf
+loop-again c =
+    let s = c .before .before .before .before in
+    let l = s .before .before .before in
+    let a = l .before .before .before .before .args in
+    let f = codes (a .signs .now) (a .bytes .now) (a .from) in
+    (search needs, as-text (ap (λ (b : ℕ). tab (l .loop .i) f ++ (b ∷ [])) (s .byte2 .ensures ∙ ap (signOf (a .signs .now)) (s .before .byte .ensures)) ∙ sym (tab-more f (l .loop .i))) (l .loop .inv .1 ⨾ c .before .before .put-byte .ensures))
 
 returns : tie.Need-returns Inv-loop μ-loop
-returns c = as-text (ap (λ (k : ℕ). tab k (codes (c .before .before .before .before .before .args .signs .now) (c .before .before .before .before .before .args .bytes .now) (c .before .before .before .before .before .args .from))) (omega arith)) (c .before .loop .inv .1)
+returns c =
+    let a = c .before .before .before .before .before .args in
+    as-text (ap (λ (k : ℕ). tab k (codes (a .signs .now) (a .bytes .now) (a .from))) (omega arith)) (c .before .loop .inv .1)
 
 pub put-signs-spec : {M : Type 1} → statement M
 put-signs-spec =
@@ -57,11 +53,13 @@ put-signs-spec =
     Inv-loop
     μ-loop
     loop-holds
-    add-sign-at
-    sign-at-requires
+    (λ c. search needs)
+    (λ c κs. search needs)
+    (λ c. search needs)
+    (λ c κs. search needs)
     put-byte-requires
-    add-i
-    loop-less
+    (λ c. search needs)
+    (λ c. search needs)
     loop-again
-    same-length
+    (λ c. c .before .loop .inv .1 .sized)
     returns)

@@ -7,31 +7,29 @@ use borrow.Author.Needs.{needs}
 use Rattle.listing.proofs.text.put_number.Statement.{statement}
 use Rattle.listing.proofs.text.put_number.Tie as tie
 
-decimal-requires : tie.Need-decimal-requires
-decimal-requires c κs = search needs
-
-array-share-prefix-text : tie.Need-array-share-prefix-text
-array-share-prefix-text c = search needs
-
-slice-aggregate-put-text : tie.Need-slice-aggregate-put-text
-slice-aggregate-put-text c = search needs
-
 put-text-requires : tie.Need-put-text-requires
-put-text-requires c κs = let x = c .before .before .before .before .before .args .x in let s = decimal-short 19 x (search needs) in let e = ap length (c .before .before .decimal .ensures .1 .1 ∙ decimal-spelt _ x (c .before .before .decimal .ensures .1 .0)) in omega arith
-
-same-length : tie.Need-same-length
-same-length c = search needs
+put-text-requires c κs =
+    let d = c .before .before in
+    let x = d .before .before .before .args .x in
+    let s = decimal-short 19 x (search needs) in
+    let e = ap length (d .decimal .ensures .1 .1 ∙ decimal-spelt _ x (d .decimal .ensures .1 .0)) in
+    omega arith
 
 returns : tie.Need-returns
-returns c = let x = c .before .before .before .before .before .before .before .before .args .x in let s = decimal-short 19 x (search needs) in let a = as-text (c .before .before .before .before .before .decimal .ensures .1 .1 ∙ decimal-spelt _ x (c .before .before .before .before .before .decimal .ensures .1 .0)) (c .before .before .put-text .ensures) in (a, omega arith)
+returns c =
+    let d = c .before .before .before .before .before in
+    let x = d .before .before .before .args .x in
+    let s = decimal-short 19 x (search needs) in
+    let a = as-text (d .decimal .ensures .1 .1 ∙ decimal-spelt _ x (d .decimal .ensures .1 .0)) (c .before .before .put-text .ensures) in
+    (a, omega arith)
 
 pub put-number-spec : {M : Type 1} → statement M
 put-number-spec =
     tie.close
     (tie.spec
-    decimal-requires
-    array-share-prefix-text
-    slice-aggregate-put-text
+    (λ c κs. search needs)
+    (λ c. search needs)
+    (λ c. search needs)
     put-text-requires
-    same-length
+    (λ c. search needs)
     returns)

@@ -4,7 +4,7 @@ use native.Mathlib.Omega.{arith}
 use lib.ListN.{length, take}
 use lib.Seq.{take-all, length-take-le}
 use borrow.Author.Needs.{needs}
-use Rattle.listing.specs.Appended.{Appended}
+use Rattle.listing.specs.Algorithm.Appended.{Appended}
 use Rattle.listing.proofs.AppendLaws.{appended-none, _⨾_, text-more, as-text}
 use Rattle.listing.proofs.text.put_text.Statement.{statement}
 use Rattle.listing.proofs.text.put_text.Tie as tie
@@ -18,26 +18,24 @@ abbrev μ-loop : tie.MeasureT-loop
 loop-holds : tie.Need-loop-holds Inv-loop μ-loop
 loop-holds c = (omega arith, appended-none _ _)
 
-shared-slice-read-put-byte : tie.Need-shared-slice-read-put-byte Inv-loop μ-loop
-shared-slice-read-put-byte c = search needs
-
 put-byte-requires : tie.Need-put-byte-requires Inv-loop μ-loop
-put-byte-requires c κs = omega (arith, length-take-le (c .before .before .before .loop .i) (c .before .before .before .before .before .before .args .text .now) (c .before .before .before .loop .inv .0))
-
-add-i : tie.Need-add-i Inv-loop μ-loop
-add-i c = search needs
-
-loop-less : tie.Need-loop-less Inv-loop μ-loop
-loop-less c = search needs
+put-byte-requires c κs =
+    let l = c .before .before .before in
+    omega (arith, length-take-le (l .loop .i) (l .before .before .before .args .text .now) (l .loop .inv .0))
 
 loop-again : tie.Need-loop-again Inv-loop μ-loop
-loop-again c = (search needs, as-text (sym (text-more (c .before .before .before .before .before .before .before .before .before .args .text .now) (c .before .before .before .before .before .before .loop .i) (c .before .before .before .before .before .loop-test .taken))) (c .before .before .before .before .before .before .loop .inv .1 ⨾ c .before .before .put-byte .ensures))
+loop-again c =
+    let t = c .before .before .before .before .before in
+    let l = t .before in
+    (search needs, as-text (sym (text-more (l .before .before .before .args .text .now) (l .loop .i) (t .loop-test .taken))) (l .loop .inv .1 ⨾ c .before .before .put-byte .ensures))
 
 same-length : tie.Need-same-length Inv-loop μ-loop
 same-length c = c .before .loop .inv .1 .sized
 
 returns : tie.Need-returns Inv-loop μ-loop
-returns c = as-text (take-all (c .before .loop .i) (c .before .before .before .before .args .text .now) (c .loop-test .left)) (c .before .loop .inv .1)
+returns c =
+    let l = c .before in
+    as-text (take-all (l .loop .i) (l .before .before .before .args .text .now) (c .loop-test .left)) (l .loop .inv .1)
 
 pub put-text-spec : {M : Type 1} → statement M
 put-text-spec =
@@ -46,10 +44,10 @@ put-text-spec =
     Inv-loop
     μ-loop
     loop-holds
-    shared-slice-read-put-byte
+    (λ c. search needs)
     put-byte-requires
-    add-i
-    loop-less
+    (λ c. search needs)
+    (λ c. search needs)
     loop-again
     same-length
     returns)

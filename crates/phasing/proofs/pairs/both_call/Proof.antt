@@ -1,8 +1,8 @@
--- `phasing::pairs::both_call` meets its contract.
+-- `pairs::both_call` meets its contract.
 -- Assumes nothing.
 use borrow.Author.Needs.{needs}
 use mathlib.Core.Path.{sym, _∙_}
-use Rattle.phasing.proofs.PairLaws.{and-true, and-false}
+use Rattle.below.proofs.TestLaws.{and-true, and-false}
 use Rattle.phasing.proofs.pairs.both_call.Statement.{statement}
 use Rattle.phasing.proofs.pairs.both_call.Tie as tie
 

@@ -1,4 +1,4 @@
--- `phasing::pairs::codes_relate` meets its contract.
+-- `pairs::codes_relate` meets its contract.
 -- Assumes nothing.
 use borrow.Author.Needs.{needs}
 use mathlib.Core.Path.{_∙_}

@@ -1,10 +1,10 @@
--- `phasing::pairs::fill_pairs` meets its contract. The invariant: the places passed hold their marks.
+-- `pairs::fill_pairs` meets its contract. The invariant: the places passed hold their marks.
 -- Assumes nothing.
 use borrow.Author.Needs.{needs}
 use Prim.Native.Nat.{_-_}
-use Rattle.records.proofs.FillLaws.{Filled, filled-none, filled-all}
+use Rattle.below.proofs.FillLaws.{Filled, filled-none, filled-all}
 use Rattle.conflicts.specs.Grid.{matrixGrid}
-use Rattle.phasing.specs.Related.{related, pairMatrix}
+use Rattle.phasing.specs.Algorithm.Related.{related, pairMatrix}
 use Rattle.phasing.proofs.MatrixLaws.{entry, pair-more}
 use Rattle.phasing.proofs.pairs.fill_pairs.Statement.{statement}
 use Rattle.phasing.proofs.pairs.fill_pairs.Tie as tie

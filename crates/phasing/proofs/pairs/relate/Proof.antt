@@ -1,10 +1,10 @@
--- `phasing::pairs::relate` meets its contract.
+-- `pairs::relate` meets its contract.
 -- Assumes nothing.
 use borrow.Author.Needs.{needs}
 use mathlib.Core.Path.{sym, _∙_}
 use Rattle.conflicts.specs.Choice.{marked}
 use Rattle.conflicts.specs.Grid.{matrixGrid}
-use Rattle.phasing.specs.Related.{related}
+use Rattle.phasing.specs.Algorithm.Related.{related}
 use Rattle.phasing.proofs.PairLaws.{first-unmarked, second-unmarked, both-marked}
 use Rattle.phasing.proofs.pairs.relate.Statement.{statement}
 use Rattle.phasing.proofs.pairs.relate.Tie as tie

@@ -1,9 +1,9 @@
--- `phasing::pairs::relate_on` meets its contract.
+-- `pairs::relate_on` meets its contract.
 -- Assumes nothing.
 use borrow.Author.Needs.{needs}
 use mathlib.Core.Path.{_∙_}
-use Rattle.records.proofs.SearchLaws.{<?-true, <?-false}
-use Rattle.phasing.proofs.PairLaws.{and-true, and-false}
+use Rattle.below.proofs.SearchLaws.{<?-true, <?-false}
+use Rattle.below.proofs.TestLaws.{and-true, and-false}
 use Rattle.phasing.proofs.pairs.relate_on.Statement.{statement}
 use Rattle.phasing.proofs.pairs.relate_on.Tie as tie
 

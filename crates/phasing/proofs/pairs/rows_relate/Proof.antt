@@ -1,9 +1,9 @@
--- `phasing::pairs::rows_relate` meets its contract. The invariant: no column passed relates the two.
+-- `pairs::rows_relate` meets its contract. The invariant: no column passed relates the two.
 -- Assumes nothing.
 use borrow.Author.Needs.{needs}
 use Prim.Native.Nat.{_-_, _≤_}
 use mathlib.Core.Path.{sym, _∙_}
-use Rattle.records.proofs.SearchLaws.{NoneBelow, none-yet, none-more, any-hit, any-none}
+use Rattle.below.proofs.SearchLaws.{NoneBelow, none-yet, none-more, any-hit, any-none}
 use Rattle.conflicts.specs.Choice.{marked}
 use Rattle.phasing.proofs.PairLaws.{columnRelates}
 use Rattle.phasing.proofs.pairs.rows_relate.Statement.{statement}

@@ -1,11 +1,11 @@
--- `phasing::pairs::set_pair` meets its contract.
+-- `pairs::set_pair` meets its contract.
 -- Assumes nothing.
 use borrow.Author.Needs.{needs}
 use Prim.Native.Nat.{ℕ}
 use mathlib.Core.Path.{sym, ap, _∙_}
 use lib.ListN.{set}
-use Rattle.records.specs.Below.{bit}
-use Rattle.phasing.proofs.SweepLaws.{if-lt, if-ge}
+use Rattle.below.specs.Below.{bit}
+use Rattle.below.proofs.TestLaws.{if-lt, if-ge}
 use Rattle.phasing.proofs.pairs.set_pair.Statement.{statement}
 use Rattle.phasing.proofs.pairs.set_pair.Tie as tie
 

@@ -2,7 +2,7 @@ use lib.ListN.{getD}
 use mathlib.Core.Path.{refl}
 use Prim.Native.Nat.{_+_, _-_}
 use Rattle.records.specs.Record.{cellBytesOf}
-use Rattle.records.proofs.FillLaws.{Filled, filled-none, filled-more, filled-all}
+use Rattle.below.proofs.FillLaws.{Filled, filled-none, filled-more, filled-all}
 use borrow.Author.Needs.{needs}
 use native.Mathlib.Omega.{arith}
 use Rattle.records.proofs.fields.cell_bytes.Statement.{statement}

@@ -1,4 +1,6 @@
+use mathlib.Core.Path.{sym, _∙_}
 use borrow.Author.Needs.{needs}
+use Rattle.below.proofs.FillLaws.{tab-const}
 use Rattle.records.proofs.FieldLaws.{row-filled}
 use Rattle.records.proofs.rows.fill_row.Statement.{statement}
 use Rattle.records.proofs.rows.fill_row.Tie as tie
@@ -18,8 +20,8 @@ cast-k c = search needs
 cell-bytes-requires : tie.Need-cell-bytes-requires
 cell-bytes-requires c κs = search needs
 
-clear-row-requires : tie.Need-clear-row-requires
-clear-row-requires c κs = search needs
+clear-requires : tie.Need-clear-requires
+clear-requires c κs = search needs
 
 smaller-requires : tie.Need-smaller-requires
 smaller-requires c κs = search needs
@@ -47,7 +49,7 @@ returns c =
     let started = spanned .before in
     let a = started .before .before .before .args in
     row-filled (a .part .now) (a .n) (a .row .now) (started .start .ensures) (spanned .span .ensures) (copied .cell-bytes .ensures)
-    (cleared .clear-row .ensures)
+    (cleared .clear .ensures ∙ sym (tab-const _ 0))
     (shown .smaller .ensures)
     (ended .smaller2 .ensures)
     (written .write-cells .ensures)
@@ -61,7 +63,7 @@ fill-row-spec =
     span-requires
     cast-k
     cell-bytes-requires
-    clear-row-requires
+    clear-requires
     smaller-requires
     add-smaller
     smaller-requires-2

@@ -1,8 +1,8 @@
 use Prim.Native.Nat.{ℕ}
 use mathlib.Core.Path.{ap, _∙_}
-use Rattle.records.specs.Below.{_==_, anyBelow}
+use Rattle.below.specs.Below.{_==_, anyBelow}
 use Rattle.records.specs.Record.{cellOf}
-use Rattle.records.proofs.BelowLaws.{any-ext}
+use Rattle.below.proofs.BelowLaws.{any-ext}
 use Rattle.records.proofs.FieldLaws.{copied-cell}
 use borrow.Author.Needs.{needs}
 use Rattle.records.proofs.rules.any_code.Statement.{statement}

@@ -1,8 +1,8 @@
 use Prim.Native.Nat.{_-_, _≤_}
 use mathlib.Core.Path.{sym}
-use Rattle.records.specs.Below.{_==_, _≤?_, _and_, isnt}
+use Rattle.below.specs.Below.{_==_, _≤?_, _and_, isnt}
 use Rattle.records.specs.Record.{copiedCell}
-use Rattle.records.proofs.SearchLaws.{NoneBelow, none-before, none-more, any-hit, any-none, ≤?-true, ==-true, ==-false}
+use Rattle.below.proofs.SearchLaws.{NoneBelow, none-before, none-more, any-hit, any-none, ≤?-true, ==-true, ==-false}
 use borrow.Author.Needs.{needs}
 use native.Mathlib.Omega.{arith}
 use Rattle.records.proofs.rules.any_copied_stray.Statement.{statement}

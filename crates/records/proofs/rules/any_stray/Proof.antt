@@ -1,7 +1,7 @@
 use Prim.Native.Nat.{ℕ}
 use mathlib.Core.Path.{ap₂, _∙_}
-use Rattle.records.specs.Below.{_==_, _≤?_, _and_, isnt}
-use Rattle.records.proofs.BelowLaws.{any-ext}
+use Rattle.below.specs.Below.{_==_, _≤?_, _and_, isnt}
+use Rattle.below.proofs.BelowLaws.{any-ext}
 use Rattle.records.proofs.FieldLaws.{copied-cell}
 use borrow.Author.Needs.{needs}
 use Rattle.records.proofs.rules.any_stray.Statement.{statement}

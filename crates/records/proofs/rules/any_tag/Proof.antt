@@ -1,10 +1,10 @@
 use Prim.Native.Nat.{_-_, _≤_}
 use mathlib.Core.Path.{_≡_, sym, ap, _∙_}
-use Rattle.records.specs.Below.{_==_}
+use Rattle.below.specs.Below.{_==_}
 use Rattle.records.specs.Record.{tagOf}
 use Rattle.records.specs.Table.{recordAt}
 use Rattle.records.proofs.PartLaws.{part-record}
-use Rattle.records.proofs.SearchLaws.{NoneBelow, none-yet, none-more, any-hit, any-none, ==-true, ==-false}
+use Rattle.below.proofs.SearchLaws.{NoneBelow, none-yet, none-more, any-hit, any-none, ==-true, ==-false}
 use borrow.Author.Needs.{needs}
 use native.Mathlib.Omega.{arith}
 use Rattle.records.proofs.rules.any_tag.Statement.{statement}

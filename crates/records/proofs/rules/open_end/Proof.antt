@@ -1,8 +1,8 @@
 use Prim.Native.Nat.{_-_}
 use mathlib.Core.Path.{_∙_}
-use Rattle.records.specs.Below.{_and_, _or_, _==_}
+use Rattle.below.specs.Below.{_and_, _or_, _==_}
 use Rattle.records.specs.Rules.{openEnd}
-use Rattle.records.proofs.SearchLaws.{<?-true, <?-false, ==-true, ==-false}
+use Rattle.below.proofs.SearchLaws.{<?-true, <?-false, ==-true, ==-false}
 use Rattle.records.proofs.FieldLaws.{copied-cell}
 use native.Mathlib.Omega.{arith}
 use borrow.Author.Needs.{needs}

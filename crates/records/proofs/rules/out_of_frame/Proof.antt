@@ -1,6 +1,6 @@
-use Rattle.records.specs.Below.{_and_, _or_, _==_, isnt}
+use Rattle.below.specs.Below.{_and_, _or_, _==_, isnt}
 use Rattle.records.specs.Rules.{outOfFrame}
-use Rattle.records.proofs.SearchLaws.{<?-true, <?-false, ==-true, ==-false}
+use Rattle.below.proofs.SearchLaws.{<?-true, <?-false, ==-true, ==-false}
 use borrow.Author.Needs.{needs}
 use Rattle.records.proofs.rules.out_of_frame.Statement.{statement}
 use Rattle.records.proofs.rules.out_of_frame.Tie as tie

@@ -4,7 +4,7 @@ use Prim.Native.Nat.{ℕ}
 use mathlib.Core.List.{List}
 use mathlib.Core.Path.{_≡_, sym, ap, _∙_}
 use denote.Ref.{now}
-use Rattle.records.specs.Below.{anyBelow, _==_}
+use Rattle.below.specs.Below.{anyBelow, _==_}
 use Rattle.records.specs.Record.{tagOf, spanOf, cellOf}
 use Rattle.records.specs.Table.{recordAt}
 use Rattle.records.specs.Rules.{outOfFrame, strayBits, unknownCall, openEnd, gapped, tagTwice, recordRules, decide}

@@ -1,7 +1,7 @@
-use Rattle.records.specs.Below.{isnt}
+use Rattle.below.specs.Below.{isnt}
 use Rattle.records.specs.Table.{fragments}
 use Rattle.records.specs.Rules.{sizeRules, decide}
-use Rattle.records.proofs.SearchLaws.{<?-true, <?-false, ==-true, ==-false}
+use Rattle.below.proofs.SearchLaws.{<?-true, <?-false, ==-true, ==-false}
 use Rattle.records.proofs.rules.size_fault.Statement.{statement}
 use Rattle.records.proofs.rules.size_fault.Tie as tie
 

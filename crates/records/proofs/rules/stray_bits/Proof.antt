@@ -1,6 +1,6 @@
-use Rattle.records.specs.Below.{_or_, isnt}
+use Rattle.below.specs.Below.{_or_, isnt}
 use Rattle.records.specs.Rules.{strayBits}
-use Rattle.records.proofs.SearchLaws.{==-true, ==-false}
+use Rattle.below.proofs.SearchLaws.{==-true, ==-false}
 use borrow.Author.Needs.{needs}
 use Rattle.records.proofs.rules.stray_bits.Statement.{statement}
 use Rattle.records.proofs.rules.stray_bits.Tie as tie

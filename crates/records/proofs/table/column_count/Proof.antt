@@ -1,10 +1,10 @@
 use mathlib.Core.List.{List}
 use Prim.Native.Nat.{ℕ, _+_, _-_, _≤_}
 use mathlib.Core.Path.{_≡_, refl, ap, _∙_}
-use Rattle.records.specs.Below.{maxBelow}
+use Rattle.below.specs.Below.{maxBelow}
 use Rattle.records.specs.Record.{startOf, spanOf}
 use Rattle.records.specs.Table.{fragments, recordAt, columnCount}
-use Rattle.records.proofs.BelowLaws.{max-more}
+use Rattle.below.proofs.BelowLaws.{max-more}
 use Rattle.records.proofs.PartLaws.{part-record}
 use borrow.Author.Needs.{needs}
 use native.Mathlib.Omega.{arith}

@@ -5,8 +5,8 @@ use Prim.Native.Nat.{_+_, _-_, _≤_}
 use native.Mathlib.Omega.{arith}
 use borrow.Author.Needs.{needs}
 use Rattle.conflicts.specs.Grid.{matrixGrid}
-use Rattle.snp_removal.specs.Columns.{columnsConflict, callsBoth}
-use Rattle.snp_removal.specs.Pairs.{bothKinds, pairsOf}
+use Rattle.snp_removal.specs.Algorithm.Columns.{columnsConflict, callsBoth}
+use Rattle.snp_removal.specs.Algorithm.Pairs.{bothKinds, pairsOf}
 use Rattle.snp_removal.proofs.PairLaws.{pairs-next, pairs-conflict, pairs-enough}
 use Rattle.snp_removal.proofs.columns.columns_conflict.Statement.{statement}
 use Rattle.snp_removal.proofs.columns.columns_conflict.Tie as tie

@@ -7,11 +7,11 @@ use native.Mathlib.Omega.{arith}
 use lib.ListN.{length}
 use borrow.Author.Needs.{needs}
 use Rattle.conflicts.specs.Grid.{matrixGrid}
-use Rattle.ranks.specs.Weight.{place, AtMost}
-use Rattle.ranks.specs.Reading.{value}
-use Rattle.ranks.specs.Tables.{at, Sweep}
+use Rattle.ranks.specs.Algorithm.Weight.{place, AtMost, removal}
+use Rattle.ranks.specs.Algorithm.Reading.{value}
+use Rattle.ranks.specs.Algorithm.Tables.{at, Sweep}
 use Rattle.ranks.proofs.TableLaws.{put-as, sweep-none, sweep-more, sweep-as}
-use Rattle.snp_removal.specs.Programme.{removal, ifMixed}
+use Rattle.snp_removal.specs.Algorithm.Programme.{ifMixed}
 use Rattle.snp_removal.proofs.StateLaws.{turn, mixed-any}
 use Rattle.snp_removal.proofs.programme.column.Statement.{statement}
 use Rattle.snp_removal.proofs.programme.column.Tie as tie

@@ -3,7 +3,7 @@
 use mathlib.Core.Path.{refl, sym, _∙_}
 use borrow.Author.Needs.{needs}
 use Rattle.conflicts.specs.Grid.{matrixGrid}
-use Rattle.ranks.specs.Tables.{at}
+use Rattle.ranks.specs.Algorithm.Tables.{at}
 use Rattle.snp_removal.proofs.StateLaws.{holds-room, holds-mixed, holds-plain}
 use Rattle.snp_removal.proofs.programme.extend.Statement.{statement}
 use Rattle.snp_removal.proofs.programme.extend.Tie as tie

@@ -4,9 +4,9 @@ use mathlib.Core.Path.{_≡_}
 use Prim.Native.Nat.{ℕ}
 use borrow.Author.Needs.{needs}
 use Rattle.conflicts.specs.Grid.{matrixGrid}
-use Rattle.ranks.specs.Reading.{value}
-use Rattle.ranks.specs.Tables.{at}
-use Rattle.snp_removal.specs.Programme.{ifMixed}
+use Rattle.ranks.specs.Algorithm.Reading.{value}
+use Rattle.ranks.specs.Algorithm.Tables.{at}
+use Rattle.snp_removal.specs.Algorithm.Programme.{ifMixed}
 use Rattle.snp_removal.proofs.StateLaws.{sum-fits, count-fits, mixed-weight}
 use Rattle.snp_removal.proofs.programme.weight_at.Statement.{statement}
 use Rattle.snp_removal.proofs.programme.weight_at.Tie as tie

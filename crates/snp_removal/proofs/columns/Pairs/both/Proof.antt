@@ -1,7 +1,7 @@
 -- `Pairs::both` meets its contract.
 -- Assumes nothing.
-use Rattle.records.specs.Below.{_and_}
-use Rattle.snp_removal.specs.Pairs.{bothKinds}
+use Rattle.below.specs.Below.{_and_}
+use Rattle.snp_removal.specs.Algorithm.Pairs.{bothKinds}
 use Rattle.snp_removal.proofs.columns.Pairs.both.Statement.{statement}
 use Rattle.snp_removal.proofs.columns.Pairs.both.Tie as tie
 

@@ -1,0 +1,6 @@
+pub mod BelowLaws
+pub mod SearchLaws
+pub mod TestLaws
+pub mod RowLaws
+pub mod FillLaws
+pub mod MemberLaws

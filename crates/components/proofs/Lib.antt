@@ -1,0 +1,3 @@
+pub mod SweepLaws
+pub mod ComponentLaws
+pub mod StepLaws

@@ -1,0 +1,154 @@
+-- What the computed trials are made of: calls with all that they are lent, what is expected of them, and the test.
+-- Assumes nothing.
+use mathlib.Core.Bool.{Bool, _&&_}
+use mathlib.Core.List.{List, [], _∷_}
+use Prim.Native.Nat.{ℕ, suc, _*_}
+use Prim.Native.String.{String}
+use lib.Dec.{eqb}
+use lib.ListN.{length, replicate}
+use Rattle.below.specs.Below.{bit, if_then_else_, _==_, _<?_, _≤?_, _and_, _or_, isnt, allBelow, anyBelow, sumBelow, countBelow, firstBelow, endBelow, tab, tabFrom, concat}
+use Rattle.records.specs.Record.{littleEndian, tagOf, startOf, spanOf, byte7Of, isCall, cellOf, codeAt}
+use Rattle.records.specs.Table.{fragments, recordAt, partStart, partLength, position, unpackedCells, unpackedTags}
+use Rattle.records.specs.Writing.{bytesOf, cellBytes, callsEnd, callsStart, callsSpan, cut, laidOut, recordOf, rowOf, packed}
+use Rattle.records.specs.Outcome.{Verdict, accepted}
+use Rattle.records.specs.Rules.{decide, outOfFrame, strayBits, unknownCall, openEnd, gapIn, gapped, tagTwice, recordRules, tableRules, sizeRules}
+use Rattle.conflicts.specs.Choice.{choices, passing, some, first, leastOf, firstLeast, marked, zeros, keepAll, keepLists}
+use Rattle.conflicts.specs.Grid.{gridOf, withCells, callsConflict, conflictOn, conflictOnKept, depth}
+use Rattle.conflicts.specs.Sides.{sidesOf, sideLists, sameSide, lawful, errorFree, firstSides}
+use Rattle.conflicts.specs.Removal.{snpKeepMarks, fragmentKeepMarks}
+use Rattle.conflicts.specs.Corrections.{correctionCost, sideCount, sidePrice, majorityLetter, columnCost, cost, leastCostSides, sideLetter, correctedCell, corrected, differs, cellCount, changedCells}
+use Rattle.conflicts.specs.Haplotypes.{sideCall, haplotype, haplotypes}
+use Rattle.conflicts.specs.Blocks.{linked, reached, lowest, block}
+use Rattle.conflicts.specs.Answer.{answerSize, answer, checkAnswer, snpAnswer, fragmentAnswer, correctedGrid, correctionAnswer, rewrittenCode, rewritten, correctedTable}
+use Rattle.conflicts.specs.Services.{workRules, lengthRule, depthRules, packSizeRules, fragmentRules, unpackRules, packRules, checkRules, lentStages, removalRules, correctionStages, correctionRules, unpackLeaves, packLeaves, findLeaves, checkLeaves, snpRemovalLeaves, fragmentRemovalLeaves, correctionsLeaves}
+use Rattle.conflicts.specs.Host.{hostRead}
+use Rattle.records.proofs.TrialTools.{sameVerdict, sameList}
+use Rattle.records.proofs.TrialText.{countIn, answerIn, marks, cells, frag, tableFrom}
+
+-- ---- calls
+
+-- a call: what it is given, and then the buffers that it is lent
+pub data Call : Type 0 where
+  unpack : ℕ → List ℕ → List ℕ → List ℕ → Call
+  pack : ℕ → List ℕ → List ℕ → List ℕ → Call
+  check : ℕ → List ℕ → List ℕ → Call
+  S : ℕ → List ℕ → List ℕ → List ℕ → Call
+  F : ℕ → List ℕ → List ℕ → List ℕ → Call
+  C : ℕ → List ℕ → List ℕ → List ℕ → List ℕ → Call
+
+-- what a call leaves: its outcome and its buffers but the work buffer
+unfoldable pub leaves : Call → Verdict × List (List ℕ)
+leaves (unpack n table cells tags) = let r = unpackLeaves n table cells tags in (r .outcome, r .cells ∷ r .tags ∷ [])
+leaves (pack n cells tags table) = let r = packLeaves n cells tags table in (r .outcome, r .table ∷ [])
+leaves (check n table answer) = let r = checkLeaves n table answer in (r .outcome, r .answer ∷ [])
+leaves (S n table answer work) = let r = snpRemovalLeaves n table answer work in (r .outcome, r .answer ∷ [])
+leaves (F n table answer work) = let r = fragmentRemovalLeaves n table answer work in (r .outcome, r .answer ∷ [])
+leaves (C n table answer output work) = let r = correctionsLeaves n table answer output work in (r .outcome, r .answer ∷ r .table ∷ [])
+
+-- its work buffer; none is lent to unpack, pack and check
+workLeft : Call → List ℕ
+workLeft (unpack n table cells tags) = []
+workLeft (pack n cells tags table) = []
+workLeft (check n table answer) = []
+workLeft (S n table answer work) = snpRemovalLeaves n table answer work .work
+workLeft (F n table answer work) = fragmentRemovalLeaves n table answer work .work
+workLeft (C n table answer output work) = correctionsLeaves n table answer output work .work
+
+-- its buffers before, but the work buffer
+lent : Call → List (List ℕ)
+lent (unpack n table cells tags) = cells ∷ tags ∷ []
+lent (pack n cells tags table) = table ∷ []
+lent (check n table answer) = answer ∷ []
+lent (S n table answer work) = answer ∷ []
+lent (F n table answer work) = answer ∷ []
+lent (C n table answer output work) = answer ∷ output ∷ []
+
+-- ---- calls with buffers of the right lengths
+
+-- before a call every number of a buffer is 9
+unfoldable pub nines : ℕ → List ℕ
+nines k = replicate k 9
+
+-- a work buffer of the least length
+unfoldable pub work9 : List ℕ
+work9 = nines 32768
+
+-- an answer for a table
+unfoldable pub answer9 : ℕ → List ℕ → List ℕ
+answer9 n table = nines (answerSize (fragments table) n)
+
+-- unpack with such buffers
+unfoldable pub unpackOn : ℕ → List ℕ → Call
+unpackOn n table = unpack n table (nines (fragments table * n)) (nines (fragments table))
+
+-- check with such a buffer
+unfoldable pub checkOn : ℕ → List ℕ → Call
+checkOn n table = check n table (answer9 n table)
+
+-- S with such buffers
+unfoldable pub SOn : ℕ → List ℕ → Call
+SOn n table = S n table (answer9 n table) work9
+
+-- F with such buffers
+unfoldable pub FOn : ℕ → List ℕ → Call
+FOn n table = F n table (answer9 n table) work9
+
+-- C with such buffers
+unfoldable pub COn : ℕ → List ℕ → Call
+COn n table = C n table (answer9 n table) (nines (length table)) work9
+
+-- ---- trials
+
+-- accepts: the call returns this count and leaves these buffers. keeps: it returns this and leaves its buffers as they were. works: its work buffer, whole, is this then.
+-- finds: of a tag and a table, the part starts here and has so many bytes. equals: one number and another. reads: of a base and a host's number, this outcome
+pub data Trial : Type 0 where
+  accepts : Call → ℕ → List (List ℕ) → Trial
+  keeps : Call → Verdict → Trial
+  works : Call → List ℕ → Trial
+  finds : ℕ → List ℕ → ℕ → ℕ → Trial
+  equals : ℕ → ℕ → Trial
+  reads : ℕ → ℕ → Verdict → Trial
+
+-- check, S or F answers as the listing prints it after the letter: count, keep marks, haplotype 1, haplotype 2, sides, blocks
+unfoldable pub answers : Call → String → Trial
+unfolding countIn answerIn
+answers call line = accepts call (countIn line) (answerIn line ∷ [])
+
+-- C answers so, and corrects the table to this one
+unfoldable pub corrects : Call → String → List ℕ → Trial
+unfolding countIn answerIn
+corrects call line table = accepts call (countIn line) (answerIn line ∷ table ∷ [])
+
+-- 1 where all fragments of a table are error-free on the columns that these marks keep, else 0
+unfoldable pub freeOn : ℕ → List ℕ → List ℕ → ℕ
+freeOn n table keepCols = bit (errorFree 2 (gridOf n table) keepCols (keepAll (fragments table)))
+
+-- a call leaves this outcome and these buffers
+left : Call → Verdict → List (List ℕ) → Bool
+left call outcome buffers = let r = leaves call in sameVerdict (r .0) outcome && sameList (sameList eqb) (r .1) buffers
+
+-- a trial passes; to unfold this unfolds all that a trial computes with
+passes : Trial → Bool
+unfolding marks cells frag tableFrom leaves workLeft lent nines work9 answer9 unpackOn checkOn SOn FOn COn answers corrects freeOn left sameVerdict sameList hostRead
+    _==_ _<?_ _≤?_ _and_ _or_ isnt allBelow anyBelow sumBelow countBelow firstBelow endBelow tab tabFrom concat
+    littleEndian tagOf startOf spanOf byte7Of isCall cellOf codeAt fragments recordAt partStart partLength position unpackedCells unpackedTags
+    bytesOf cellBytes callsEnd callsStart callsSpan cut laidOut recordOf rowOf packed
+    decide outOfFrame strayBits unknownCall openEnd gapIn gapped tagTwice recordRules tableRules sizeRules
+    choices passing some first leastOf firstLeast marked zeros keepAll keepLists gridOf withCells callsConflict conflictOn conflictOnKept depth
+    sidesOf sideLists sameSide lawful errorFree firstSides snpKeepMarks fragmentKeepMarks
+    correctionCost sideCount sidePrice majorityLetter columnCost cost leastCostSides sideLetter correctedCell corrected differs cellCount changedCells
+    sideCall haplotype haplotypes linked reached lowest block answerSize answer checkAnswer snpAnswer fragmentAnswer correctedGrid correctionAnswer rewrittenCode rewritten correctedTable
+    workRules lengthRule depthRules packSizeRules fragmentRules unpackRules packRules checkRules lentStages removalRules correctionStages correctionRules
+    unpackLeaves packLeaves findLeaves checkLeaves snpRemovalLeaves fragmentRemovalLeaves correctionsLeaves
+passes (accepts call count buffers) = left call (accepted count) buffers
+passes (keeps call outcome) = left call outcome (lent call)
+passes (works call buffer) = sameList eqb (workLeft call) buffer
+passes (finds tag table start count) = let r = findLeaves tag table in eqb (r .start) start && eqb (r .count) count
+passes (equals x y) = eqb x y
+passes (reads base number outcome) = sameVerdict (hostRead base number) outcome
+
+-- the places of the trials that fail, counted from i
+unfoldable pub failing : ℕ → List Trial → List ℕ
+unfolding passes
+failing i [] = []
+failing i (t ∷ ts) = if passes t then failing (suc i) ts else i ∷ failing (suc i) ts

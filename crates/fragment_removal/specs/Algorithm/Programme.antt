@@ -1,0 +1,39 @@
+-- The least weight of the fragments removed, by recursion on the fragments that remain in the order (paper 001, section 5.2).
+-- Assumes nothing.
+use Prim.Native.Nat.{ℕ, zero, suc, _+_, _-_, min}
+use mathlib.Core.Bool.{Bool, true}
+use Rattle.below.specs.Below.{if_then_else_, _<?_}
+use Rattle.conflicts.specs.Grid.{Grid, agree}
+use Rattle.ranks.specs.Algorithm.Weight.{removal}
+use Rattle.fragment_removal.specs.Algorithm.Fragments.{reach}
+
+-- a side's state: 0 if no fragment is kept on it, and else one more than the place in the order of the one "that reaches furthest"; how far that one reaches
+unfoldable pub stateReach : Grid → (ℕ → ℕ) → ℕ → ℕ
+stateReach g order zero = 0
+stateReach g order (suc h) = reach g (order h)
+
+-- the fragment at place i agrees with a side's state
+unfoldable pub mayJoin : Grid → (ℕ → ℕ) → ℕ → ℕ → Bool
+mayJoin g order zero i = true
+mayJoin g order (suc h) i = agree g (order h) (order i)
+
+-- the state of a side once the fragment at place i has joined it
+abbrev pub furthest : (ℕ → ℕ) → ℕ → ℕ → ℕ
+furthest reaches s i = if reaches s <? reaches (i + 1) then i + 1 else s
+
+-- removed, on side 1 if it may join it, or on side 2: whichever weighs least
+abbrev pub chooseFragment : Bool → Bool → ℕ → ℕ → ℕ → ℕ → ℕ
+chooseFragment first second out one two rest =
+    let w = if second then min (out + rest) two else out + rest in
+    if first then min w one else w
+
+-- what the fragment at place i makes of the weights of those after it, at states h and l of sides 1 and 2
+abbrev pub withFragment : (ℕ → Bool) → (ℕ → ℕ) → ℕ → ℕ → (ℕ → ℕ → ℕ) → ℕ → ℕ → ℕ
+withFragment may reaches out i v h l = chooseFragment (may h) (may l) out (v (furthest reaches h i) l) (v h (furthest reaches l i)) (v h l)
+
+-- the least weight of the last k fragments of the order, at states h and l
+unfoldable pub leastFragmentWeight : Grid → (ℕ → ℕ) → ℕ → ℕ → ℕ → ℕ
+leastFragmentWeight g order zero h l = 0
+leastFragmentWeight g order (suc k) h l =
+    let i = g .m - suc k in
+    withFragment (λ s. mayJoin g order s i) (stateReach g order) (removal (order i)) i (leastFragmentWeight g order k) h l

@@ -1,0 +1,80 @@
+-- More of `conflicts`' SameLaws: matrices of one size with the same cells have the same mixed columns, depths, gaps and corrections; the same links give the same lowest fragments.
+-- Assumes nothing.
+use mathlib.Core.Path.{_≡_, sym, ap, ap₂, _∙_, fun-ext}
+use mathlib.Core.Bool.{Bool}
+use mathlib.Core.List.{List, []}
+use Prim.Native.Nat.{ℕ, suc, _<_, _≤_}
+use native.Mathlib.Omega.{arith}
+use lib.ListN.{getD}
+use Rattle.below.specs.Below.{nth, if_then_else_, isnt, anyBelow, _==_, _and_}
+use Rattle.records.specs.Record.{isCall}
+use Rattle.below.proofs.BelowLaws.{any-ext, all-ext, sum-ext, count-ext}
+use Rattle.records.proofs.SoundLaws.{gap-same}
+use Rattle.conflicts.specs.Choice.{firstLeast, keepAll}
+use Rattle.conflicts.specs.Grid.{Grid, withCells, mixed, gapless, depth}
+use Rattle.conflicts.specs.Sides.{sideLists}
+use Rattle.conflicts.specs.Corrections.{correctionCost, sideCount, sidePrice, columnCost, cost, leastCostSides, majorityLetter, sideLetter, correctedCell, corrected}
+use Rattle.conflicts.specs.Blocks.{Chain, alone, onward, lowest}
+use Rattle.conflicts.specs.Answer.{answer, correctedGrid, correctionAnswer}
+use Rattle.conflicts.proofs.ReachLaws.{lowest-least, lowest-inside, lowest-chain}
+use Rattle.conflicts.proofs.SameLaws.{answer-cells}
+
+-- ---- the same links
+
+module _ (m : ℕ) (p q : ℕ → ℕ → Bool) (same : (i j : ℕ) → i < m → j < m → p i j ≡ q i j) where
+  chain-alike : {i j : ℕ} → j < m → Chain m p i j → Chain m q i j
+  chain-alike hj alone = alone
+  chain-alike {i} {j} hj (onward {h} c hh t) = onward (chain-alike hh c) hh (rw (same h j hh hj) at t)
+
+  lowest-under : (i : ℕ) → i < m → lowest m q i ≤ lowest m p i
+  lowest-under i hi = lowest-least m q i hi (chain-alike (lowest-inside m p i hi) (lowest-chain m p i hi)) (lowest-inside m p i hi)
+
+pub lowest-alike : (m : ℕ) (p q : ℕ → ℕ → Bool) → ((i j : ℕ) → i < m → j < m → p i j ≡ q i j) → (i : ℕ) → i < m → lowest m p i ≡ lowest m q i
+lowest-alike m p q same i hi =
+    let a = lowest-under m p q same i hi in
+    let b = lowest-under m q p (λ j k hj hk. sym (same j k hj hk)) i hi in
+    omega arith
+
+-- ---- the same cells
+
+module _ (g : Grid) (cell : ℕ → ℕ → ℕ) (same : (i c : ℕ) → i < g .m → c < g .n → g .cell i c ≡ cell i c) where
+  pub mixed-cells : (c : ℕ) → c < g .n → mixed g c ≡ mixed (withCells g cell) c
+  unfolding mixed withCells
+  mixed-cells c hc = ap₂ _and_ (letter 1) (letter 2)
+    where
+      letter : (x : ℕ) → anyBelow (g .m) (λ i. g .cell i c == x) ≡ anyBelow (g .m) (λ i. cell i c == x)
+      letter x = any-ext (g .m) _ _ (λ i hi. ap (λ (y : ℕ). y == x) (same i c hi hc))
+
+  pub depth-cells : (c : ℕ) → c < g .n → depth g c ≡ depth (withCells g cell) c
+  unfolding depth withCells
+  depth-cells c hc = count-ext (g .m) _ _ (λ i hi. ap isCall (same i c hi hc))
+
+  pub gapless-cells : gapless g ≡ gapless (withCells g cell)
+  unfolding gapless withCells
+  gapless-cells = all-ext (g .m) _ _ (λ i hi. ap isnt (gap-same (g .n) (g .cell i) (cell i) (λ c hc. same i c hi hc)))
+
+  -- C's counts, costs, sides and corrected cells
+  sideCount-cells : (sides : List ℕ) (s c letter : ℕ) → c < g .n → sideCount g (nth sides) s c letter ≡ sideCount (withCells g cell) (nth sides) s c letter
+  unfolding sideCount correctionCost withCells
+  sideCount-cells sides s c letter hc = sum-ext (g .m) _ _ (λ i hi. ap (λ (x : ℕ). if getD sides i 0 == s and x == letter then 1 else 0) (same i c hi hc))
+
+  pub cost-cells : (k : ℕ) (sides : List ℕ) → cost k g sides ≡ cost k (withCells g cell) sides
+  unfolding cost columnCost withCells
+  cost-cells k sides =
+      sum-ext (g .n) _ _ (λ c hc. sum-ext k _ _ (λ s hs. ap₂ sidePrice (sideCount-cells sides (suc s) c 1 hc) (sideCount-cells sides (suc s) c 2 hc)))
+
+  pub leastCostSides-cells : (k : ℕ) → leastCostSides k g ≡ leastCostSides k (withCells g cell)
+  unfolding leastCostSides withCells
+  leastCostSides-cells k = ap (λ (price : List ℕ → ℕ). firstLeast price (sideLists k (keepAll (g .m))) []) (fun-ext (cost-cells k))
+
+  pub correctedCell-cells : (sides : List ℕ) (i c : ℕ) → i < g .m → c < g .n → correctedCell g sides i c ≡ correctedCell (withCells g cell) sides i c
+  unfolding correctedCell sideLetter withCells
+  correctedCell-cells sides i c hi hc =
+      ap₂ (λ (x y : ℕ). if isCall x then y else x) (same i c hi hc) (ap₂ majorityLetter (sideCount-cells sides (getD sides i 0) c 1 hc) (sideCount-cells sides (getD sides i 0) c 2 hc))
+
+  pub correctionAnswer-cells : correctionAnswer g ≡ correctionAnswer (withCells g cell)
+  unfolding correctionAnswer correctedGrid corrected withCells
+  correctionAnswer-cells =
+      let sides = leastCostSides 2 g in
+      answer-cells (corrected g sides) (correctedCell (withCells g cell) sides) (correctedCell-cells sides) (keepAll (g .n)) sides
+      ∙ ap (λ (l : List ℕ). answer (corrected (withCells g cell) l) (keepAll (g .n)) l) (leastCostSides-cells 2)

@@ -1,0 +1,21 @@
+-- The cell matrix that the services work on, 128 cells to a fragment.
+-- Assumes nothing.
+use mathlib.Core.Path.{_≡_}
+use mathlib.Core.List.{List}
+use Prim.Native.Nat.{ℕ, _/_, _%_, _≤_}
+use lib.ListN.{length}
+use Rattle.below.specs.Below.{if_then_else_, _<?_, _and_, tab}
+use Rattle.records.specs.Record.{codeAt}
+use Rattle.records.specs.Table.{fragments, recordAt}
+
+-- the cells of a table: fragment i's code at column c stands at place 128i + c, and 0 outside m × n
+unfoldable pub tableCells : ℕ → List ℕ → List ℕ
+tableCells n table = tab 16384 (λ k. if k / 128 <? fragments table and k % 128 <? n then codeAt (recordAt table (k / 128)) (k % 128) else 0)
+
+-- at most 128 fragments and columns, a whole matrix, and a mark for each column and fragment
+pub record MarkedMatrix (m n : ℕ) (cells keepCols keepFrags : List ℕ) : Type 0 where
+  pub few : m ≤ 128
+  pub narrow : n ≤ 128
+  pub cells-long : length cells ≡ 16384
+  pub columns : length keepCols ≡ n
+  pub fragments : length keepFrags ≡ m

@@ -1,0 +1,5 @@
+pub mod SizeLaws
+pub mod UnpackLaws
+pub mod FragmentLaws
+pub mod PackLaws
+pub mod RoundTrips

@@ -1,0 +1,66 @@
+-- What the sizes of a call of pack say once rules 3, 1 and 2 are kept.
+-- Assumes nothing.
+use mathlib.Core.Path.{_≡_, refl, sym, ap, _∙_}
+use mathlib.Core.Bool.{false}
+use mathlib.Core.List.{List, List·Memᴰ·head, List·Memᴰ·tail}
+use Prim.Native.Nat.{ℕ, _+_, _*_, _/_, _%_, _≤_, _<_, _^_}
+use native.Mathlib.Nat.{mul-zero, mul-le-mul, lt-of-le-of-lt, div-add-mod', mul-mod-left, mul-div-cancel}
+use native.Mathlib.Omega.{arith}
+use lib.Dec.{lit<, eqb}
+use lib.ListN.{length}
+use Rattle.below.specs.Below.{_==_}
+use Rattle.below.proofs.BelowLaws.{isnt-isnt, T-isnt-isnt, isnt-<?, le-isnt, same-test, ==-eq, eq-==}
+use Rattle.below.proofs.SearchLaws.{==-false}
+use Rattle.below.proofs.RowLaws.{row-within}
+use Rattle.records.proofs.RuleLaws.{decide-none, unbroken}
+use Rattle.records.proofs.KeptLaws.{rule-unbroken}
+use Rattle.conflicts.specs.Services.{packSizeRules}
+use Rattle.packing.specs.Algorithm.Sizes.{PackSized}
+
+module _ {n : ℕ} {cells tags : List ℕ} (sized : PackSized n cells tags) where
+  -- 3
+  pub pack-n : n ≤ 128
+  unfolding packSizeRules
+  pack-n = isnt-<? 128 n (unbroken (packSizeRules n cells tags) _ _ (sized .kept) _ (List·Memᴰ·head refl))
+
+  -- 1
+  pub pack-exact : length cells ≡ length tags * n
+  unfolding packSizeRules
+  pack-exact = ==-eq _ _ (isnt-isnt _ (unbroken (packSizeRules n cells tags) _ _ (sized .kept) _ (List·Memᴰ·tail (List·Memᴰ·head refl))))
+
+  -- 2
+  pub pack-m : length tags ≤ 128
+  unfolding packSizeRules
+  pack-m = isnt-<? 128 _ (unbroken (packSizeRules n cells tags) _ _ (sized .kept) _ (List·Memᴰ·tail (List·Memᴰ·tail (List·Memᴰ·head refl))))
+
+  -- the row of a fragment lies within the cells
+  pub pack-row : (i : ℕ) → i < length tags → i * n + n ≤ length cells
+  pack-row i h = let e = pack-exact in let r = row-within (length tags) n i h in omega arith
+
+-- sizes that pack takes
+pub pack-sized-of : {n : ℕ} {cells tags : List ℕ} → n ≤ 128 → length cells ≡ length tags * n → length tags ≤ 128 → PackSized n cells tags
+unfolding packSizeRules
+pack-sized-of wide exact few = record {
+  kept = rule-unbroken _ _ _ (le-isnt _ _ wide) ∙ rule-unbroken _ _ _ (T-isnt-isnt _ (eq-== _ _ exact)) ∙ rule-unbroken _ _ _ (le-isnt _ _ few) ∙ decide-none _;
+}
+
+-- a product of two numbers up to 128 fits a usize
+pub product-fits : {n m : ℕ} → n ≤ 128 → m ≤ 128 → m * n < 2 ^ 64
+product-fits hn hm = lt-of-le-of-lt (mul-le-mul hm hn) (lit< tt)
+
+-- ---- a length that is a product, by a division
+
+module _ (len m n : ℕ) where
+  pub product-none : n ≡ 0 → eqb len 0 ≡ (len == m * n)
+  unfolding _==_
+  product-none e = rw (e, mul-zero)
+
+  pub product-ragged : (len % n ≡ 0 → ⊥) → false ≡ (len == m * n)
+  product-ragged f = sym (==-false len (m * n) (λ e. f (ap (λ (k : ℕ). k % n) e ∙ mul-mod-left m n)))
+
+  pub product-exact : (n ≡ 0 → ⊥) → len % n ≡ 0 → eqb (len / n) m ≡ (len == m * n)
+  unfolding _==_
+  product-exact some e =
+      same-test (len / n == m) (len == m * n)
+      (λ t. let d = ==-eq (len / n) m t in eq-== _ _ (sym (div-add-mod' len n) ∙ rw (e, d) (omega arith)))
+      (λ t. eq-== _ _ (ap (λ (k : ℕ). k / n) (==-eq len (m * n) t) ∙ mul-div-cancel m (omega arith)))

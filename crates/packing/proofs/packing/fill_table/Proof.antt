@@ -1,0 +1,125 @@
+-- `packing::fill_table` meets its contract. The loop's invariant: the records of the fragments before i stand in the table, and the next row starts at cell i × n.
+-- Assumes nothing.
+use mathlib.Core.Path.{_≡_, sym, _∙_}
+use Prim.Native.Nat.{_+_, _*_, _-_, _≤_, _<_}
+use native.Mathlib.Omega.{arith}
+use native.Mathlib.Nat.{zero-mul, add-sub-cancel-left}
+use lib.ListN.{length}
+use borrow.Author.Needs.{needs}
+use borrow.Rule.Slice.PartMut.{same-len-mid, mid-len}
+use Rattle.packing.proofs.PackLaws.{Laid, record-written, laid-none, laid-more, laid-all, row-next}
+use Rattle.packing.proofs.FragmentLaws.{row-record, row-writable, kept-small, kept-narrow}
+use Rattle.packing.proofs.SizeLaws.{pack-n, pack-m, pack-row}
+use Rattle.packing.proofs.packing.fill_table.Statement.{statement}
+use Rattle.packing.proofs.packing.fill_table.Tie as tie
+
+abbrev Inv-loop : tie.InvT-loop
+Inv-loop n cells tags table₀ first₀ i₀ table first i = Laid n cells tags table₀ i table × (first ≡ i * n)
+
+abbrev μ-loop : tie.MeasureT-loop
+μ-loop n cells tags table₀ first₀ i₀ table first i = length tags - i
+
+-- the turn's row lies within the cells
+row-in : (c : tie.After-shared-slice-known3 Inv-loop μ-loop) → c .before .before .loop .first + c .before .before .before .before .before .before .args .n ≤ length (c .before .before .before .before .before .before .args .cells .now)
+row-in c =
+    let e = c .before .before .loop .inv .1 in
+    let r = pack-row (c .before .before .before .before .before .before .pre .0) (c .before .before .loop .i) (omega arith) in
+    omega arith
+
+loop-holds : tie.Need-loop-holds Inv-loop μ-loop
+loop-holds c = (laid-none _ _ _ _ (c .before .before .before .pre .1 .1), sym (zero-mul _))
+
+mul-to : tie.Need-mul-to Inv-loop μ-loop
+mul-to c = let h = pack-m (c .before .before .before .before .before .pre .0) in omega arith
+
+mul-write-record : tie.Need-mul-write-record Inv-loop μ-loop
+mul-write-record c = search needs
+
+shared-slice-read-write-record : tie.Need-shared-slice-read-write-record Inv-loop μ-loop
+shared-slice-read-write-record c = search needs
+
+add-write-record : tie.Need-add-write-record Inv-loop μ-loop
+add-write-record c = let r = row-in c in omega arith
+
+sub-write-record : tie.Need-sub-write-record Inv-loop μ-loop
+sub-write-record c = search needs
+
+part-write-record-start : tie.Need-part-write-record-start Inv-loop μ-loop
+part-write-record-start c = search needs
+
+part-write-record-end : tie.Need-part-write-record-end Inv-loop μ-loop
+part-write-record-end c = row-in c
+
+add-write-record-2 : tie.Need-add-write-record-2 Inv-loop μ-loop
+add-write-record-2 c = let h = pack-m (c .before .before .before .before .before .before .before .pre .0) in omega arith
+
+sub-write-record-2 : tie.Need-sub-write-record-2 Inv-loop μ-loop
+sub-write-record-2 c = search needs
+
+part-write-record-start-2 : tie.Need-part-write-record-start-2 Inv-loop μ-loop
+part-write-record-start-2 c = search needs
+
+part-write-record-end-2 : tie.Need-part-write-record-end-2 Inv-loop μ-loop
+part-write-record-end-2 c = let s = c .before .before .before .loop .inv .0 .sized in omega arith
+
+write-record-requires : tie.Need-write-record-requires Inv-loop μ-loop
+write-record-requires c κs = search needs
+
+add-first : tie.Need-add-first Inv-loop μ-loop
+add-first c = let r = row-in (c .before .before .before .before .before) in omega arith
+
+add-i : tie.Need-add-i Inv-loop μ-loop
+add-i c = search needs
+
+loop-less : tie.Need-loop-less Inv-loop μ-loop
+loop-less c = search needs
+
+loop-again : tie.Need-loop-again Inv-loop μ-loop
+loop-again c =
+    let s = c .before .before .before .before .before in
+    let l = s .before .before .loop in
+    let a = s .before .before .before .before .before .before .args in
+    let pre = s .before .before .before .before .before .before .pre in
+    let h : l .i < length (a .tags .now) = omega arith in
+    let long = l .inv .0 .sized in
+    let w = c .before .before .write-record in (
+      laid-more (a .n) (a .cells .now) (a .tags .now) (a .table .now) (l .i) (l .inv .0) h
+          (same-len-mid (32 * l .i) (32 * l .i + 32 - 32 * l .i) (l .table) (w .last .1 .1 .0) (w .kept .1 .1 .0))
+          (record-written (w .ensures)
+          (mid-len (32 * l .i) (32 * l .i + 32) (l .table) (omega arith) ∙ add-sub-cancel-left (32 * l .i) 32)
+          (row-writable (a .n) (a .cells .now) (l .i) (l .inv .1) (row-in s) (pack-n (pre .0)) (kept-small (pre .1 .0) (l .i) h) (kept-narrow (pre .1 .0) (l .i) h))
+          ∙ row-record (a .n) (a .cells .now) (l .i) (l .inv .1) (row-in s) _),
+      row-next (l .i) (a .n) (l .inv .1),
+    )
+
+same-length : tie.Need-same-length Inv-loop μ-loop
+same-length c = c .before .loop .inv .0 .sized ∙ sym (c .before .before .before .before .before .pre .1 .1)
+
+returns : tie.Need-returns Inv-loop μ-loop
+returns c = laid-all _ _ _ _ (c .before .before .before .before .before .pre .1 .1) (c .before .loop .i) (c .before .loop .table) (c .before .loop .inv .0) (omega arith)
+
+pub fill-table-spec : {M : Type 1} → statement M
+fill-table-spec =
+    tie.close
+    (tie.spec
+    Inv-loop
+    μ-loop
+    loop-holds
+    mul-to
+    mul-write-record
+    shared-slice-read-write-record
+    add-write-record
+    sub-write-record
+    part-write-record-start
+    part-write-record-end
+    add-write-record-2
+    sub-write-record-2
+    part-write-record-start-2
+    part-write-record-end-2
+    write-record-requires
+    add-first
+    add-i
+    loop-less
+    loop-again
+    same-length
+    returns)

@@ -1,0 +1,68 @@
+-- `packing::fragments_fault` meets its contract. The loop's invariant: the verdict is that of the fragments from i on.
+-- Assumes nothing.
+use mathlib.Core.Path.{_≡_, refl, sym, ap, _∙_}
+use Prim.Native.Nat.{_-_, _≤_}
+use native.Mathlib.Omega.{arith}
+use lib.ListN.{length}
+use borrow.Author.Needs.{needs}
+use Rattle.records.proofs.RuleLaws.{fromRow, rows-begin, rows-end, row-kept, row-broken}
+use Rattle.records.specs.Rules.{decide}
+use Rattle.records.specs.Outcome.{accepted, outcomeOf}
+use Rattle.conflicts.specs.Services.{fragmentRules}
+use Rattle.packing.specs.Algorithm.Sizes.{fragmentsRules}
+use Rattle.packing.proofs.packing.fragments_fault.Statement.{statement}
+use Rattle.packing.proofs.packing.fragments_fault.Tie as tie
+
+abbrev Inv-loop : tie.InvT-loop
+Inv-loop n cells tags m i₀ i = (m ≡ length tags) × (i ≤ m) × (decide (fragmentsRules n cells tags) (accepted (length tags)) ≡ fromRow (fragmentRules n cells tags) (accepted (length tags)) i m)
+
+abbrev μ-loop : tie.MeasureT-loop
+μ-loop n cells tags m i₀ i = m - i
+
+loop-holds : tie.Need-loop-holds Inv-loop μ-loop
+unfolding fragmentsRules
+loop-holds c = (refl, search needs, rows-begin _ _ _)
+
+fragment-fault-requires : tie.Need-fragment-fault-requires Inv-loop μ-loop
+fragment-fault-requires c κs = (c .before .before .before .before .pre, search needs)
+
+enum-known-fault : tie.Need-enum-known-fault Inv-loop μ-loop
+enum-known-fault c = search needs
+
+returns : tie.Need-returns Inv-loop μ-loop
+returns c =
+    let lp = c .before .before .before .before .before .loop in
+    sym (lp .inv .2 ∙ row-broken _ _ (lp .i) _ 0 _ _ (omega arith) (sym (c .before .before .before .fragment-fault .ensures) ∙ ap outcomeOf (c .before .fault .given .1)))
+
+enum-told : tie.Need-enum-told Inv-loop μ-loop
+enum-told c = search needs
+
+add-i : tie.Need-add-i Inv-loop μ-loop
+add-i c = search needs
+
+loop-less : tie.Need-loop-less Inv-loop μ-loop
+loop-less c = search needs
+
+loop-again : tie.Need-loop-again Inv-loop μ-loop
+loop-again c =
+    let lp = c .before .before .before .before .loop in
+    (lp .inv .0, search needs, lp .inv .2 ∙ row-kept _ _ (lp .i) _ 0 _ (omega arith) (sym (c .before .before .fragment-fault .ensures) ∙ ap outcomeOf (c .enum-told .given .1)))
+
+returns-2 : tie.Need-returns-2 Inv-loop μ-loop
+returns-2 c = ap accepted (c .before .loop .inv .0) ∙ sym (c .before .loop .inv .2 ∙ rows-end _ _ (c .before .loop .i) _ (omega arith))
+
+pub fragments-fault-spec : {M : Type 1} → statement M
+fragments-fault-spec =
+    tie.close
+    (tie.spec
+    Inv-loop
+    μ-loop
+    loop-holds
+    fragment-fault-requires
+    enum-known-fault
+    returns
+    enum-told
+    add-i
+    loop-less
+    loop-again
+    returns-2)

@@ -1,0 +1,64 @@
+-- `packing::tag_before` meets its contract. The loop's invariant: no fragment before h has the tag sought.
+-- Assumes nothing.
+use mathlib.Core.Path.{_≡_, refl, sym, _∙_}
+use Prim.Native.Nat.{_-_, _≤_}
+use native.Mathlib.Omega.{arith}
+use lib.ListN.{getD}
+use borrow.Author.Needs.{needs}
+use Rattle.below.specs.Below.{_==_}
+use Rattle.below.proofs.SearchLaws.{NoneBelow, none-yet, none-more, any-hit, any-none, ==-true, ==-false}
+use Rattle.packing.proofs.packing.tag_before.Statement.{statement}
+use Rattle.packing.proofs.packing.tag_before.Tie as tie
+
+abbrev Inv-loop : tie.InvT-loop
+Inv-loop tags i sought h₀ h = (h ≤ i) × (sought ≡ getD tags i 0) × NoneBelow h (λ j. getD tags j 0 == getD tags i 0)
+
+abbrev μ-loop : tie.MeasureT-loop
+μ-loop tags i sought h₀ h = i - h
+
+mul-sought : tie.Need-mul-sought Inv-loop μ-loop
+mul-sought c = search needs
+
+shared-slice-read-sought : tie.Need-shared-slice-read-sought Inv-loop μ-loop
+shared-slice-read-sought c = search needs
+
+loop-holds : tie.Need-loop-holds Inv-loop μ-loop
+loop-holds c = (search needs, refl, none-yet _)
+
+mul-if1 : tie.Need-mul-if1 Inv-loop μ-loop
+mul-if1 c = search needs
+
+shared-slice-read-if1 : tie.Need-shared-slice-read-if1 Inv-loop μ-loop
+shared-slice-read-if1 c = search needs
+
+returns : tie.Need-returns Inv-loop μ-loop
+returns c = sym (any-hit _ _ (c .before .before .before .loop .h) (omega arith) (==-true _ _ (c .if1 .taken ∙ c .before .before .before .loop .inv .1)))
+
+add-h : tie.Need-add-h Inv-loop μ-loop
+add-h c = search needs
+
+loop-less : tie.Need-loop-less Inv-loop μ-loop
+loop-less c = search needs
+
+loop-again : tie.Need-loop-again Inv-loop μ-loop
+loop-again c = (search needs, c .before .before .before .loop .inv .1, none-more _ _ (c .before .before .before .loop .inv .2) (==-false _ _ (λ e. c .if1 .left (e ∙ sym (c .before .before .before .loop .inv .1)))))
+
+returns-2 : tie.Need-returns-2 Inv-loop μ-loop
+returns-2 c = sym (any-none _ _ (c .before .loop .h) (c .loop-test .left) (c .before .loop .inv .2))
+
+pub tag-before-spec : {M : Type 1} → statement M
+tag-before-spec =
+    tie.close
+    (tie.spec
+    Inv-loop
+    μ-loop
+    mul-sought
+    shared-slice-read-sought
+    loop-holds
+    mul-if1
+    shared-slice-read-if1
+    returns
+    add-h
+    loop-less
+    loop-again
+    returns-2)

@@ -1,0 +1,157 @@
+// Pack: cells and tags to a table's records.
+ghost use mathlib.Core.Path.{_≡_};
+ghost use Prim.Native.Nat.{_*_, _<_};
+ghost use lib.ListN.{length, getD};
+ghost use Rattle.below.specs.Below.{_==_, anyBelow};
+ghost use Rattle.records.specs.Writing.{packed};
+ghost use Rattle.records.specs.Outcome.{accepted, outcomeOf};
+ghost use Rattle.records.specs.Rules.{decide};
+ghost use Rattle.conflicts.specs.Services.{packSizeRules, fragmentRules, packLeaves};
+ghost use Rattle.packing.specs.Algorithm.Sizes.{PackSized, FragmentsKept, fragmentsRules, refuses};
+use records::Outcome;
+use writing::any_unknown;
+use writing::calls_span;
+use writing::is_gapped;
+use writing::write_record;
+
+// Whether a length is m × n, with no product that could overflow.
+fn is_product(len: usize, m: usize, n: usize) -> bool
+    ensures { λ r. ⌜ r ≡ (len == m * n) ⌝ }
+{
+    if n == 0 {
+        return len == 0;
+    }
+    if len % n != 0 {
+        return false;
+    }
+    len / n == m
+}
+
+// The sizes by 3, 1, 2: the first fault, or the number of tags.
+fn pack_size_fault(n: usize, cells: &[u8], tags: &[u32]) -> Outcome
+    ensures { λ r. ⌜ outcomeOf r ≡ decide (packSizeRules n (now (cells .entry)) (now (tags .entry))) (accepted (length (now (tags .entry)))) ⌝ }
+{
+    if 128 < n {
+        return Outcome::Refused(3, 0);
+    }
+    let m = tags.len();
+    if !is_product(cells.len(), m, n) {
+        return Outcome::Refused(1, 0);
+    }
+    if 128 < m {
+        return Outcome::Refused(2, 0);
+    }
+    Outcome::Accepted(m)
+}
+
+// Whether a fragment before i has the tag of fragment i.
+fn tag_before(tags: &[u32], i: usize) -> bool
+    requires { ⌜ i < length (now tags) ⌝ }
+    ensures { λ r. ⌜ r ≡ anyBelow i (λ h. getD (now (tags .entry)) h 0 == getD (now (tags .entry)) i 0) ⌝ }
+{
+    let sought = tags[i];
+    let mut h = 0;
+    while h < i {
+        if tags[h] == sought {
+            return true;
+        }
+        h += 1;
+    }
+    false
+}
+
+// Fragment i by 6, 4, 8, 9.
+fn fragment_fault(n: usize, cells: &[u8], tags: &[u32], i: usize) -> Outcome
+    requires { ⌜ PackSized n (now cells) (now tags) ⌝ }
+    requires { ⌜ i < length (now tags) ⌝ }
+    ensures { λ r. ⌜ outcomeOf r ≡ decide (fragmentRules n (now (cells .entry)) (now (tags .entry)) i) (accepted 0) ⌝ }
+{
+    let from = i * n;
+    let row = &cells[from..from + n];
+    if any_unknown(row) {
+        return Outcome::Refused(6, i);
+    }
+    if 96 < calls_span(row) {
+        return Outcome::Refused(4, i);
+    }
+    if is_gapped(row) {
+        return Outcome::Refused(8, i);
+    }
+    if tag_before(tags, i) {
+        return Outcome::Refused(9, i);
+    }
+    Outcome::Accepted(0)
+}
+
+// The fragments from 0, each by 6, 4, 8, 9: the first fault, or the number of tags.
+fn fragments_fault(n: usize, cells: &[u8], tags: &[u32]) -> Outcome
+    requires { ⌜ PackSized n (now cells) (now tags) ⌝ }
+    ensures { λ r. ⌜ outcomeOf r ≡ decide (fragmentsRules n (now (cells .entry)) (now (tags .entry))) (accepted (length (now (tags .entry)))) ⌝ }
+{
+    let m = tags.len();
+    let mut i = 0;
+    while i < m {
+        let fault = fragment_fault(n, cells, tags, i);
+        if let Outcome::Refused(number, place) = fault {
+            return Outcome::Refused(number, place);
+        }
+        i += 1;
+    }
+    Outcome::Accepted(m)
+}
+
+// Writes the record of each fragment into its own 32 bytes.
+fn fill_table(n: usize, cells: &[u8], tags: &[u32], table: &mut [u8])
+    requires { ⌜ PackSized n (now cells) (now tags) ⌝ }
+    requires { ⌜ FragmentsKept n (now cells) (now tags) ⌝ }
+    requires { ⌜ length (now table) ≡ 32 * length (now tags) ⌝ }
+    ensures { λ _. ⌜ now (table .exit) ≡ packed n (now (cells .entry)) (now (tags .entry)) ⌝ }
+{
+    let mut first = 0;
+    let mut i = 0;
+    while i < tags.len() {
+        let to = 32 * i;
+        write_record(tags[i], &cells[first..first + n], &mut table[to..to + 32]);
+        first += n;
+        i += 1;
+    }
+}
+
+// Whether an outcome is a refusal.
+fn is_refusal(outcome: Outcome) -> bool
+    ensures { λ r. ⌜ r ≡ refuses (outcomeOf outcome) ⌝ }
+{
+    match outcome {
+        Outcome::Refused(_, _) => true,
+        Outcome::Accepted(_) => false,
+    }
+}
+
+// Pack once the sizes are kept: the table's length, then the fragments.
+fn pack_sized(n: usize, cells: &[u8], tags: &[u32], table: &mut [u8]) -> Outcome
+    requires { ⌜ PackSized n (now cells) (now tags) ⌝ }
+    ensures outcome { λ r. ⌜ outcomeOf r ≡ packLeaves n (now (cells .entry)) (now (tags .entry)) (now (table .entry)) .outcome ⌝ }
+    ensures table { λ _. ⌜ now (table .exit) ≡ packLeaves n (now (cells .entry)) (now (tags .entry)) (now (table .entry)) .table ⌝ }
+{
+    if table.len() != 32 * tags.len() {
+        return Outcome::Refused(11, 0);
+    }
+    let rest = fragments_fault(n, cells, tags);
+    if is_refusal(rest) {
+        return rest;
+    }
+    fill_table(n, cells, tags, table);
+    rest
+}
+
+// Writes the record of each fragment from its tag and its cells; a refusal writes nothing.
+pub fn pack(n: usize, cells: &[u8], tags: &[u32], table: &mut [u8]) -> Outcome
+    ensures outcome { λ r. ⌜ outcomeOf r ≡ packLeaves n (now (cells .entry)) (now (tags .entry)) (now (table .entry)) .outcome ⌝ }
+    ensures table { λ _. ⌜ now (table .exit) ≡ packLeaves n (now (cells .entry)) (now (tags .entry)) (now (table .entry)) .table ⌝ }
+{
+    let sizes = pack_size_fault(n, cells, tags);
+    match sizes {
+        Outcome::Refused(number, place) => Outcome::Refused(number, place),
+        Outcome::Accepted(_) => pack_sized(n, cells, tags, table),
+    }
+}

@@ -1,0 +1,3 @@
+pub mod Related
+pub mod Sides
+pub mod Answer

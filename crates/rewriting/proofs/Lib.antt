@@ -1,0 +1,3 @@
+pub mod DepthLaws
+pub mod LetterLaws
+pub mod RewriteLaws

@@ -1,0 +1,61 @@
+-- `depth::first_deep` meets its contract. The loop's invariant: no column passed has more than 8 calls.
+-- Assumes nothing.
+use mathlib.Core.Path.{sym, subst}
+use Prim.Native.Nat.{ℕ, _-_, _≤_, _<_}
+use native.Mathlib.Omega.{arith}
+use borrow.Author.Needs.{needs}
+use Rattle.below.specs.Below.{_<?_}
+use Rattle.below.proofs.SearchLaws.{NoneBelow, none-yet, none-more, first-hit, first-none, <?-true, <?-false}
+use Rattle.conflicts.specs.Grid.{matrixGrid, depth}
+use Rattle.rewriting.specs.Algorithm.Depth.{firstDeep}
+use Rattle.rewriting.proofs.depth.first_deep.Statement.{statement}
+use Rattle.rewriting.proofs.depth.first_deep.Tie as tie
+
+abbrev Inv-loop : tie.InvT-loop
+Inv-loop m n cells c₀ c = (c ≤ n) × NoneBelow c (λ (k : ℕ). 8 <? depth (matrixGrid m n cells) k)
+
+abbrev μ-loop : tie.MeasureT-loop
+μ-loop m n cells c₀ c = n - c
+
+loop-holds : tie.Need-loop-holds Inv-loop μ-loop
+loop-holds c = (search needs, none-yet _)
+
+calls-in-requires : tie.Need-calls-in-requires Inv-loop μ-loop
+calls-in-requires c κs = search needs
+
+returns : tie.Need-returns Inv-loop μ-loop
+unfolding firstDeep matrixGrid
+returns c =
+    let l = c .before .before .before .loop in
+    let a = c .before .before .before .before .before .args in
+    sym (first-hit (a .n) (λ (k : ℕ). 8 <? depth (matrixGrid (a .m) (a .n) (a .cells .now)) k) (l .c) (c .before .before .loop-test .taken) (l .inv .1) (<?-true 8 _ (subst (λ (x : ℕ). 8 < x) (c .before .calls-in .ensures (a .n)) (c .if1 .taken))))
+
+add-c : tie.Need-add-c Inv-loop μ-loop
+add-c c = search needs
+
+loop-less : tie.Need-loop-less Inv-loop μ-loop
+loop-less c = search needs
+
+loop-again : tie.Need-loop-again Inv-loop μ-loop
+loop-again c =
+    let l = c .before .before .before .loop in
+    let a = c .before .before .before .before .before .args in
+    (search needs, none-more (l .c) (λ (k : ℕ). 8 <? depth (matrixGrid (a .m) (a .n) (a .cells .now)) k) (l .inv .1) (<?-false 8 _ (subst (λ (x : ℕ). x ≤ 8) (c .before .calls-in .ensures (a .n)) (c .if1 .left))))
+
+returns-2 : tie.Need-returns-2 Inv-loop μ-loop
+unfolding firstDeep matrixGrid
+returns-2 c = let l = c .before .loop in sym (first-none _ _ (l .c) (omega arith) (l .inv .1))
+
+pub first-deep-spec : {M : Type 1} → statement M
+first-deep-spec =
+    tie.close
+    (tie.spec
+    Inv-loop
+    μ-loop
+    loop-holds
+    calls-in-requires
+    returns
+    add-c
+    loop-less
+    loop-again
+    returns-2)

@@ -1,0 +1,54 @@
+-- `letters::fill_corrected` meets its contract. The invariant: the places passed hold their cells.
+-- Assumes nothing.
+use borrow.Author.Needs.{needs}
+use Prim.Native.Nat.{_-_}
+use Rattle.below.proofs.FillLaws.{Filled, filled-none, filled-more, filled-all}
+use Rattle.rewriting.specs.Algorithm.Letters.{correctedAt, correctedCells}
+use Rattle.rewriting.proofs.letters.fill_corrected.Statement.{statement}
+use Rattle.rewriting.proofs.letters.fill_corrected.Tie as tie
+
+abbrev Inv-loop : tie.InvT-loop
+Inv-loop m n cells sides first second corrected₀ k₀ corrected k = Filled 16384 (correctedAt m n cells sides) k corrected
+
+abbrev μ-loop : tie.MeasureT-loop
+μ-loop m n cells sides first second corrected₀ k₀ corrected k = 16384 - k
+
+loop-holds : tie.Need-loop-holds Inv-loop μ-loop
+loop-holds c = filled-none 16384 _ _ (c .before .before .before .before .before .pre .0 .2)
+
+corrected-at-requires : tie.Need-corrected-at-requires Inv-loop μ-loop
+corrected-at-requires c κs = let p = c .before .before .before .before .before .before .before .pre in ((p .0 .0, p .0 .1, c .loop-test .taken), p .1)
+
+slice-write-corrected : tie.Need-slice-write-corrected Inv-loop μ-loop
+slice-write-corrected c = let e = c .before .before .loop .inv .sized in search needs
+
+add-k : tie.Need-add-k Inv-loop μ-loop
+add-k c = search needs
+
+loop-less : tie.Need-loop-less Inv-loop μ-loop
+loop-less c = search needs
+
+loop-again : tie.Need-loop-again Inv-loop μ-loop
+loop-again c = filled-more 16384 _ (c .before .before .loop .k) (c .before .before .loop .corrected) (c .corrected-at .result) (c .before .before .loop .inv) (c .before .loop-test .taken) (c .corrected-at .ensures)
+
+same-length : tie.Need-same-length Inv-loop μ-loop
+same-length c = let e = c .before .loop .inv .sized in search needs
+
+returns : tie.Need-returns Inv-loop μ-loop
+unfolding correctedCells
+returns c = filled-all 16384 _ (c .before .loop .k) (c .before .loop .corrected) (c .before .loop .inv) (c .loop-test .left)
+
+pub fill-corrected-spec : {M : Type 1} → statement M
+fill-corrected-spec =
+    tie.close
+    (tie.spec
+    Inv-loop
+    μ-loop
+    loop-holds
+    corrected-at-requires
+    slice-write-corrected
+    add-k
+    loop-less
+    loop-again
+    same-length
+    returns)

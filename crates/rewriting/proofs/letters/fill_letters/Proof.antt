@@ -1,0 +1,54 @@
+-- `letters::fill_letters` meets its contract. The invariant: the columns passed have their letters.
+-- Assumes nothing.
+use borrow.Author.Needs.{needs}
+use Prim.Native.Nat.{_-_}
+use Rattle.below.proofs.FillLaws.{Filled, filled-none, filled-more, filled-all}
+use Rattle.conflicts.specs.Grid.{matrixGrid}
+use Rattle.conflicts.specs.Corrections.{sideLetter}
+use Rattle.rewriting.proofs.letters.fill_letters.Statement.{statement}
+use Rattle.rewriting.proofs.letters.fill_letters.Tie as tie
+
+abbrev Inv-loop : tie.InvT-loop
+Inv-loop m cells sides s letters₀ c₀ letters c = Filled 128 (sideLetter (matrixGrid m 128 cells) sides s) c letters
+
+abbrev μ-loop : tie.MeasureT-loop
+μ-loop m cells sides s letters₀ c₀ letters c = 128 - c
+
+loop-holds : tie.Need-loop-holds Inv-loop μ-loop
+loop-holds c = filled-none 128 _ _ (c .before .before .before .pre .3)
+
+side-letter-requires : tie.Need-side-letter-requires Inv-loop μ-loop
+side-letter-requires c κs = search needs
+
+slice-write-letters : tie.Need-slice-write-letters Inv-loop μ-loop
+slice-write-letters c = let e = c .before .before .loop .inv .sized in search needs
+
+add-c : tie.Need-add-c Inv-loop μ-loop
+add-c c = search needs
+
+loop-less : tie.Need-loop-less Inv-loop μ-loop
+loop-less c = search needs
+
+loop-again : tie.Need-loop-again Inv-loop μ-loop
+loop-again c = filled-more 128 _ (c .before .before .loop .c) (c .before .before .loop .letters) (c .side-letter .result) (c .before .before .loop .inv) (c .before .loop-test .taken) (c .side-letter .ensures)
+
+same-length : tie.Need-same-length Inv-loop μ-loop
+same-length c = let e = c .before .loop .inv .sized in search needs
+
+returns : tie.Need-returns Inv-loop μ-loop
+returns c = filled-all 128 _ (c .before .loop .c) (c .before .loop .letters) (c .before .loop .inv) (c .loop-test .left)
+
+pub fill-letters-spec : {M : Type 1} → statement M
+fill-letters-spec =
+    tie.close
+    (tie.spec
+    Inv-loop
+    μ-loop
+    loop-holds
+    side-letter-requires
+    slice-write-letters
+    add-c
+    loop-less
+    loop-again
+    same-length
+    returns)

@@ -1,4 +1,0 @@
-pub mod Sizes
-pub mod Meanings
-pub mod Rewriting
-pub mod RoundTrips

@@ -1,0 +1,3 @@
+pub mod Columns
+pub mod Pairs
+pub mod Programme

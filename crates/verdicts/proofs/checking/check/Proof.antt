@@ -1,0 +1,42 @@
+use mathlib.Core.Path.{sym, ap, _∙_}
+use Rattle.records.specs.Outcome.{outcomeOf}
+use Rattle.verdicts.proofs.CheckLaws.{check-sizes, check-refuses, check-means}
+use borrow.Author.Needs.{needs}
+use Rattle.verdicts.proofs.checking.check.Statement.{statement}
+use Rattle.verdicts.proofs.checking.check.Tie as tie
+
+size-fault-requires : tie.Need-size-fault-requires
+size-fault-requires c κs = search needs
+
+enum-known-sizes : tie.Need-enum-known-sizes
+enum-known-sizes c = search needs
+
+enum-known-sizes-2 : tie.Need-enum-known-sizes-2
+enum-known-sizes-2 c = search needs
+
+check-sized-requires : tie.Need-check-sized-requires
+check-sized-requires c κs = record { kept = sym (c .before .before .before .before .size-fault .ensures) ∙ ap outcomeOf (c .before .before .sizes2 .given .1) }
+
+returns : tie.Need-returns
+returns c =
+    let a = c .before .before .before .before .before .before .args in
+    let r = check-refuses (a .n) (a .table .now) (a .answer .now) _ _ (check-sizes _ _ _ _ _ (sym (c .before .before .before .size-fault .ensures) ∙ ap outcomeOf (c .before .sizes .given .1))) in
+    (r .0, (r .1, check-means _ _ _ (r .0) (r .1)))
+
+same-length : tie.Need-same-length
+same-length c = search needs
+
+returns-2 : tie.Need-returns-2
+returns-2 c = let r = c .before .before .check-sized .ensures in (r .0, (r .1, check-means _ _ _ (r .0) (r .1)))
+
+pub check-spec : {M : Type 1} → statement M
+check-spec =
+    tie.close
+    (tie.spec
+    size-fault-requires
+    enum-known-sizes
+    enum-known-sizes-2
+    check-sized-requires
+    returns
+    same-length
+    returns-2)

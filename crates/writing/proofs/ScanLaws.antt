@@ -1,0 +1,89 @@
+-- What a loop over a row's columns has found when it ends or returns.
+-- Assumes nothing.
+use mathlib.Core.Path.{_≡_, refl, sym, _∙_}
+use mathlib.Core.Logic.{inl, inr}
+use mathlib.Core.Bool.{Bool, true, false}
+use Prim.Native.Nat.{ℕ, zero, suc, _+_, _-_, _≤_, _<_}
+use native.Mathlib.Nat.{eq-zero-or-pos}
+use native.Mathlib.Decide.{decLe}
+use native.Mathlib.Omega.{arith}
+use lib.Dec.{T}
+use Rattle.below.specs.Below.{_==_, _<?_, isnt, anyBelow, endBelow, firstBelow}
+use Rattle.records.specs.Record.{isCall}
+use Rattle.records.specs.Rules.{gapIn}
+use Rattle.records.specs.Writing.{callsEnd, callsStart, callsSpan}
+use Rattle.below.proofs.BelowLaws.{if-true, if-false, firstBelow-at, firstBelow-least}
+use Rattle.below.proofs.SearchLaws.{NoneBelow, true-T, false-T, any-hit, any-none, ==-true}
+use Rattle.records.proofs.ExtentLaws.{calls, endBelow-le, endBelow-at, endBelow-past, start-none, start-some, extent-of, gap-within}
+
+suc-sub : (c : ℕ) → suc c - 1 ≡ c
+suc-sub c = omega arith
+
+-- ---- from column 0 on
+
+pub start-hit : (n : ℕ) (row : ℕ → ℕ) (c : ℕ) → c < n → NoneBelow c (calls row) → isCall (row c) ≡ true → c ≡ callsStart n row
+unfolding callsEnd
+start-hit n row c h before e =
+    let t = true-T e in
+    let some = endBelow-past n (calls row) c h t in
+    let low = firstBelow-least n (calls row) c h t in
+    let at = firstBelow-at n (calls row) (omega arith) in
+    let f = firstBelow n (calls row) in
+    let high : f < c → ⊥ = λ l. false-T (before .none-passes f l) at in
+    let s = start-some n row (omega arith) in
+    omega arith
+
+pub start-miss : (n : ℕ) (row : ℕ → ℕ) (c : ℕ) → n ≤ c → NoneBelow c (calls row) → 0 ≡ callsStart n row
+unfolding callsEnd
+start-miss n row c h t = elim (eq-zero-or-pos (endBelow n (calls row))) [
+  | inl e ↦ sym (start-none n row e)
+  | inr g ↦
+      let le = endBelow-le n (calls row) in
+      absurd (false-T (t .none-passes (endBelow n (calls row) - 1) (omega arith)) (endBelow-at n (calls row) g))
+]
+
+-- the codes without a meaning
+abbrev pub unknown : (ℕ → ℕ) → ℕ → Bool
+unknown row c = 2 <? row c
+
+-- the holes from a column on
+abbrev pub holes : (ℕ → ℕ) → ℕ → ℕ → Bool
+holes row start k = row (start + k) == 0
+
+module _ (n : ℕ) (row : ℕ → ℕ) (start span : ℕ) (e : start ≡ callsStart n row) (d : span ≡ callsSpan n row) where
+  gap-is : gapIn n row ≡ anyBelow span (holes row start)
+  gap-is = rw (e, d) (gap-within n row _ _ (extent-of n row))
+
+  pub gap-hit : (k : ℕ) → k < span → row (start + k) ≡ 0 → true ≡ gapIn n row
+  gap-hit k h z = sym (gap-is ∙ any-hit span (holes row start) k h (==-true _ _ z))
+
+  pub gap-miss : (k : ℕ) → span ≤ k → NoneBelow k (holes row start) → false ≡ gapIn n row
+  gap-miss k h t = sym (gap-is ∙ any-none span (holes row start) k h t)
+
+  pub span-fits : start + span ≤ n
+  span-fits = let w = extent-of n row .fits in omega arith
+
+-- ---- from the last column down
+
+pub end-hit : (row : ℕ → ℕ) (e : ℕ) → 0 < e → T (isCall (row (e - 1))) → callsEnd e row ≡ e
+unfolding callsEnd endBelow
+end-hit row zero h t = refl
+end-hit row (suc c) h t = if-true (isCall (row c)) _ _ (rw (suc-sub c) at t)
+
+pub end-miss : (row : ℕ → ℕ) (e : ℕ) → 0 < e → T (isnt (isCall (row (e - 1)))) → callsEnd e row ≡ callsEnd (e - 1) row
+unfolding callsEnd endBelow
+end-miss row zero h t = refl
+end-miss row (suc c) h t = rw (suc-sub c) (if-false (isCall (row c)) _ _ (rw (suc-sub c) at t))
+
+pub end-none : (row : ℕ → ℕ) → callsEnd 0 row ≡ 0
+unfolding callsEnd endBelow
+end-none row = refl
+
+-- ---- both
+
+pub start-le-end : (n : ℕ) (row : ℕ → ℕ) → callsStart n row ≤ callsEnd n row
+unfolding callsSpan
+start-le-end n row = elim (eq-zero-or-pos (callsEnd n row)) [
+  | inl e ↦ let z = start-none n row e in omega arith
+  | inr h ↦ let f = extent-of n row .none in elim (decLe (callsStart n row) (callsEnd n row)) [ yes l ↦ l | no l ↦ let z = f (omega arith) in omega arith ]
+]

@@ -1,0 +1,49 @@
+-- `layout::tag_byte` meets its contract.
+-- Assumes nothing.
+use mathlib.Core.Path.{_≡_, refl}
+use native.Mathlib.Omega.{arith}
+use borrow.Author.Needs.{needs}
+use Rattle.records.specs.Writing.{bytesOf}
+use Rattle.writing.proofs.layout.tag_byte.Statement.{statement}
+use Rattle.writing.proofs.layout.tag_byte.Tie as tie
+
+cast-result : tie.Need-cast-result
+cast-result c = search needs
+
+cast-result-2 : tie.Need-cast-result-2
+cast-result-2 c = search needs
+
+cast-result-3 : tie.Need-cast-result-3
+cast-result-3 c = search needs
+
+cast-result-4 : tie.Need-cast-result-4
+cast-result-4 c = search needs
+
+returns : tie.Need-returns
+unfolding bytesOf
+returns c = rw (c .match .keys1) refl
+
+returns-2 : tie.Need-returns-2
+unfolding bytesOf
+returns-2 c = rw (c .match .keys2) refl
+
+returns-3 : tie.Need-returns-3
+unfolding bytesOf
+returns-3 c = rw (c .match .keys3) refl
+
+returns-4 : tie.Need-returns-4
+unfolding bytesOf
+returns-4 c = let e : c .before .args .k ≡ 3 = omega arith in rw e refl
+
+pub tag-byte-spec : {M : Type 1} → statement M
+tag-byte-spec =
+    tie.close
+    (tie.spec
+    cast-result
+    cast-result-2
+    cast-result-3
+    cast-result-4
+    returns
+    returns-2
+    returns-3
+    returns-4)

@@ -1,0 +1,70 @@
+-- `layout::write_record` meets its contract.
+-- Assumes nothing.
+use native.Mathlib.Omega.{arith}
+use lib.ListN.{length}
+use borrow.Author.Tests.{not-true, not-false}
+use borrow.Author.Needs.{needs}
+use Rattle.records.specs.Writing.{codesOf}
+use Rattle.writing.proofs.LayoutLaws.{writable-wide, writable-narrow, not-long, not-writable, written}
+use Rattle.writing.proofs.ScanLaws.{span-fits}
+use Rattle.below.proofs.BelowLaws.{passes, fails}
+use Rattle.writing.proofs.layout.write_record.Statement.{statement}
+use Rattle.writing.proofs.layout.write_record.Tie as tie
+
+returns : tie.Need-returns
+returns c =
+    let a = c .before .before .before .args in
+    not-long (a .tag) (a .row .now) (a .«record» .now) (c .if1 .taken)
+
+is-writable-requires : tie.Need-is-writable-requires
+is-writable-requires c κs = search needs
+
+returns-2 : tie.Need-returns-2
+returns-2 c =
+    let a = c .before .before .before .before .before .args in
+    not-writable (a .tag) (a .row .now) (a .«record» .now) (fails (c .before .is-writable .ensures) (not-true _ (c .if2 .taken)))
+
+calls-start-requires : tie.Need-calls-start-requires
+calls-start-requires c κs = search needs
+
+calls-span-requires : tie.Need-calls-span-requires
+calls-span-requires c κs = search needs
+
+fill-record-requires : tie.Need-fill-record-requires
+fill-record-requires c κs =
+    let s = c .before .before .before in
+    let row = s .before .before .before .before .before .args .row .now in
+    let w = passes (s .before .is-writable .ensures) (not-false _ (s .if2 .left)) in
+    let n = writable-wide row w in
+    let d = c .before .calls-span .ensures in
+    let m = writable-narrow row w in
+    let f = span-fits (length row) (codesOf row) _ _ (c .before .before .calls-start .ensures) d in
+    (w, (omega arith, omega arith, s .before .before .if1 .left))
+
+same-length : tie.Need-same-length
+same-length c = search needs
+
+returns-3 : tie.Need-returns-3
+returns-3 c =
+    let s = c .before .before .before .before .before .before in
+    let a = s .before .before .before .before .before .args in
+    let w = passes (s .before .is-writable .ensures) (not-false _ (s .if2 .left)) in
+    written (a .tag) (a .row .now) (a .«record» .now) _ _ _
+    (s .before .before .if1 .left)
+    w
+    (c .before .before .before .before .before .calls-start .ensures)
+    (c .before .before .before .before .calls-span .ensures)
+    (c .before .before .fill-record .ensures)
+
+pub write-record-spec : {M : Type 1} → statement M
+write-record-spec =
+    tie.close
+    (tie.spec
+    returns
+    is-writable-requires
+    returns-2
+    calls-start-requires
+    calls-span-requires
+    fill-record-requires
+    same-length
+    returns-3)

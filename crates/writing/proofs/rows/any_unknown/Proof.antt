@@ -1,0 +1,63 @@
+use mathlib.Core.Path.{sym}
+-- `rows::any_unknown` meets its contract. The loop's invariant: no code without a meaning stands before column c.
+-- Assumes nothing.
+use Prim.Native.Nat.{_-_, _≤_}
+use native.Mathlib.Omega.{arith}
+use lib.ListN.{length}
+use borrow.Author.Needs.{needs}
+use Rattle.records.specs.Writing.{codesOf}
+use Rattle.writing.proofs.ScanLaws.{unknown}
+use Rattle.below.proofs.SearchLaws.{NoneBelow, none-yet, none-more, any-hit, any-none, <?-true, <?-false}
+use Rattle.writing.proofs.rows.any_unknown.Statement.{statement}
+use Rattle.writing.proofs.rows.any_unknown.Tie as tie
+
+abbrev Inv-loop : tie.InvT-loop
+Inv-loop row c₀ c = (c ≤ length row) × NoneBelow c (unknown (codesOf row))
+
+abbrev μ-loop : tie.MeasureT-loop
+μ-loop row c₀ c = length row - c
+
+loop-holds : tie.Need-loop-holds Inv-loop μ-loop
+loop-holds c = (search needs, none-yet (unknown (codesOf (c .before .args .row .now))))
+
+byte-requires : tie.Need-byte-requires Inv-loop μ-loop
+byte-requires c κs = search needs
+
+returns : tie.Need-returns Inv-loop μ-loop
+returns c =
+    let row = c .before .before .before .before .before .args .row .now in
+    let l = c .before .before .before .loop in
+    let e = c .before .byte .ensures in
+    sym (any-hit (length row) (unknown (codesOf row)) (l .c) (omega arith) (<?-true _ _ (omega arith)))
+
+add-c : tie.Need-add-c Inv-loop μ-loop
+add-c c = search needs
+
+loop-less : tie.Need-loop-less Inv-loop μ-loop
+loop-less c = search needs
+
+loop-again : tie.Need-loop-again Inv-loop μ-loop
+loop-again c =
+    let row = c .before .before .before .before .before .args .row .now in
+    let l = c .before .before .before .loop in
+    let e = c .before .byte .ensures in
+    (search needs, none-more (l .c) (unknown (codesOf row)) (l .inv .1) (<?-false _ _ (omega arith)))
+
+returns-2 : tie.Need-returns-2 Inv-loop μ-loop
+returns-2 c =
+    let row = c .before .before .before .args .row .now in
+    sym (any-none (length row) (unknown (codesOf row)) (c .before .loop .c) (omega arith) (c .before .loop .inv .1))
+
+pub any-unknown-spec : {M : Type 1} → statement M
+any-unknown-spec =
+    tie.close
+    (tie.spec
+    Inv-loop
+    μ-loop
+    loop-holds
+    byte-requires
+    returns
+    add-c
+    loop-less
+    loop-again
+    returns-2)
