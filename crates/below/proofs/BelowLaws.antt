@@ -308,14 +308,6 @@ sum-swap (suc m) n f = ap (λ (k : ℕ). k + sumBelow n (f m)) (sum-swap m n f) 
 
 -- ---- one number more, as a loop's counter steps
 
-pub all-next : (i : ℕ) (p : ℕ → Bool) → allBelow (i + 1) p ≡ (allBelow i p and p i)
-unfolding allBelow
-all-next i p = rw add-one
-
-pub any-next : (i : ℕ) (p : ℕ → Bool) → anyBelow (i + 1) p ≡ (anyBelow i p or p i)
-unfolding anyBelow
-any-next i p = rw add-one
-
 pub sum-next : (i : ℕ) (f : ℕ → ℕ) → sumBelow (i + 1) f ≡ sumBelow i f + f i
 unfolding sumBelow
 sum-next i f = rw add-one

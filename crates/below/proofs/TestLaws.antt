@@ -14,11 +14,6 @@ pub and-false : {a : Bool} (b : Bool) → a ≡ false → false ≡ (a and b)
 unfolding _and_
 and-false b e = rw e
 
-pub and-other : (a : Bool) {b : Bool} → b ≡ false → false ≡ (a and b)
-unfolding _and_
-and-other true e = sym e
-and-other false e = refl
-
 pub if-first : {a : Bool} (b : Bool) (x y : ℕ) → a ≡ false → y ≡ (if a and b then x else y)
 if-first b x y e = ap (λ (t : Bool). if t then x else y) (and-false b e)
 

@@ -57,17 +57,6 @@ conflict-self x t = go (or-cases _ _ t)
     go (inl s) = apart (left-of _ _ s) (right-of _ _ s)
     go (inr s) = apart (right-of _ _ s) (left-of _ _ s)
 
--- with every column kept, conflicts on kept columns are conflicts
-pub conflict-all : (g : Grid) (i j : ℕ) → T (conflictOnKept g (keepAll (g .n)) i j) ↔ T (conflict g i j)
-unfolding conflictOnKept conflict
-conflict-all g i j = (
-  λ t. let w = anyBelow-at (g .n) _ t in anyBelow-of (g .n) _ (w .0) (w .1) (right-of _ _ (w .2)),
-  λ t. let w = anyBelow-at (g .n) _ t in anyBelow-of (g .n) _ (w .0) (w .1) (both _ _ (kept (w .0) (w .1)) (w .2)),
-)
-  where
-    kept : (c : ℕ) → c < g .n → T (marked (keepAll (g .n)) c)
-    kept c h = kept-all (g .n) c h
-
 -- two rows conflict as the fragments of a matrix do whose rows they are
 pub rows-conflict : (g : Grid) (keepCols first second : List ℕ) (i j : ℕ) → length keepCols ≡ g .n
     → ((c : ℕ) → c < g .n → getD first c 0 ≡ g .cell i c) → ((c : ℕ) → c < g .n → getD second c 0 ≡ g .cell j c) → rowsConflict keepCols first second ≡ conflictOnKept g keepCols i j

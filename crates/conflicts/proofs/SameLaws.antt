@@ -74,24 +74,3 @@ module _ (g : Grid) (cell : ℕ → ℕ → ℕ) (same : (i c : ℕ) → i < g .
       ap₂ (λ (h b : List ℕ). cols ++ (h ++ (sides ++ b)))
       (ap (λ (f : ℕ → List ℕ). concat (tab 2 f)) (fun-ext (λ h. tab-ext (g .n) _ _ (haplotype-cells cols sides (suc h)))))
       (tab-ext (g .m) _ _ λ i hi. block-cells cols sides i)
-
-  -- check's, S's and F's answers
-  pub check-cells : checkAnswer g ≡ checkAnswer (withCells g cell)
-  unfolding checkAnswer withCells
-  check-cells = ap (answer g (keepAll (g .n))) (firstSides-conflicts g cell conflicts 2 (keepAll (g .n)) (keepAll (g .m))) ∙ answer-cells (keepAll (g .n)) _
-
-  pub snpAnswer-cells : snpAnswer g ≡ snpAnswer (withCells g cell)
-  unfolding snpAnswer withCells
-  snpAnswer-cells =
-      let sides : (cols : List ℕ) → List ℕ = λ cols. firstSides 2 (withCells g cell) cols (keepAll (g .m)) in
-      ap (answer g (snpKeepMarks g)) (firstSides-conflicts g cell conflicts 2 (snpKeepMarks g) (keepAll (g .m)))
-      ∙ ap (λ (cols : List ℕ). answer g cols (sides cols)) (snp-conflicts g cell conflicts)
-      ∙ answer-cells _ _
-
-  pub fragmentAnswer-cells : fragmentAnswer g ≡ fragmentAnswer (withCells g cell)
-  unfolding fragmentAnswer withCells
-  fragmentAnswer-cells =
-      let sides : (frags : List ℕ) → List ℕ = λ frags. firstSides 2 (withCells g cell) (keepAll (g .n)) frags in
-      ap (answer g (keepAll (g .n))) (firstSides-conflicts g cell conflicts 2 (keepAll (g .n)) (fragmentKeepMarks g))
-      ∙ ap (λ (frags : List ℕ). answer g (keepAll (g .n)) (sides frags)) (fragment-conflicts g cell conflicts)
-      ∙ answer-cells _ _

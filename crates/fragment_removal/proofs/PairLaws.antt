@@ -23,7 +23,7 @@ use Rattle.ranks.proofs.TableLaws.{parts-small, sweep-none, zeros-at}
 use Rattle.fragment_removal.specs.Algorithm.Fragments.{start, Ordered, Begins}
 use Rattle.fragment_removal.specs.Algorithm.Programme.{stateReach, mayJoin, furthest, chooseFragment, withFragment, leastFragmentWeight}
 use Rattle.fragment_removal.specs.Algorithm.Pairs.{pairs, flat, Fits, FragmentRoom, Rows, Made, HoldsFragments}
-use Rattle.fragment_removal.proofs.SumLaws.{lastSum, last-first}
+use Rattle.fragment_removal.proofs.SumLaws.{permuted-sum, lastSum, last-first}
 use Rattle.fragment_removal.proofs.ProgrammeLaws.{one-removed, choose-small, programme-small}
 
 -- ---- room
@@ -213,7 +213,7 @@ module _ (g : Grid) (order : ℕ → ℕ) where
     places-fit small o =
         let at′ : i ≡ g .m - suc k = omega arith in
         let whole = last-first (λ j. place (order j)) (g .m) (suc k) (omega arith) in
-        let once = o .once place in
+        let once = permuted-sum (g .m) order (o .below) (o .apart) place in
         let low = places-top (g .m) everything small in
         let e = ap (λ (x : ℕ). place (order x)) at′ in
         omega arith

@@ -121,10 +121,6 @@ module _ (g : Grid) (order : ℕ → ℕ) (s : ℕ) where
 
 -- ---- zeros
 
-pub tab-zeros : (n : ℕ) → tab {A = ℕ} n (λ i. 0) ≡ replicate n 0
-tab-zeros n = ext-getD 0 _ _ (length-tab {A = ℕ} n (λ i. 0) ∙ sym (length-replicate {A = ℕ} n 0))
-    (λ i h. let l : i < n = rw (length-tab {A = ℕ}) at h in getD-tab {A = ℕ} n (λ i. 0) i 0 l ∙ sym (getD-replicate {A = ℕ} n i 0 0 l))
-
 pub cleared-as : {before new : List ℕ} (old : List ℕ) → Cleared before new → length new ≡ length old → new ≡ replicate (length old) 0
 cleared-as {before} old e same =
     e .zeros ∙ ap (λ (x : ℕ). replicate {A = ℕ} x 0) (sym (length-replicate {A = ℕ} (length before) 0) ∙ ap length (sym (e .zeros)) ∙ same)

@@ -5,9 +5,9 @@ use writing::calls_start;
 ghost use mathlib.Core.Path.{_≡_};
 ghost use Prim.Native.Nat.{ℕ, _+_, _<_, _≤_};
 ghost use lib.ListN.{length};
-ghost use Rattle.below.specs.Below.{bit};
+ghost use Rattle.below.specs.Below.{bit, nth};
 ghost use Rattle.conflicts.specs.Grid.{matrixGrid, conflict};
-ghost use Rattle.fragment_removal.specs.Algorithm.Fragments.{start, reach, Begins, Positions, entries};
+ghost use Rattle.fragment_removal.specs.Algorithm.Fragments.{start, reach, Begins, Positions};
 ghost use Rattle.matrix.specs.Algorithm.Matrix.{Matrix};
 ghost use Rattle.fragment_removal.specs.Algorithm.Programme.{stateReach, mayJoin};
 
@@ -53,7 +53,7 @@ pub(crate) fn fill_starts(m: usize, n: usize, cells: &[u8], starts: &mut [u8])
 // How far a side's state reaches.
 fn state_reach(m: usize, n: usize, cells: &[u8], order: &[u8], s: usize) -> u8
     requires { ⌜ Matrix m n (now cells) × Positions m (now order) × (s ≤ m) ⌝ }
-    ensures { λ r. ⌜ r ≡ stateReach (matrixGrid m n (now (cells .entry))) (entries (now (order .entry))) s ⌝ }
+    ensures { λ r. ⌜ r ≡ stateReach (matrixGrid m n (now (cells .entry))) (nth (now (order .entry))) s ⌝ }
 {
     if s == 0 {
         return 0;
@@ -65,7 +65,7 @@ fn state_reach(m: usize, n: usize, cells: &[u8], order: &[u8], s: usize) -> u8
 // The reaches of the states, by their places in the order.
 pub(crate) fn fill_reaches(m: usize, n: usize, cells: &[u8], order: &[u8], reaches: &mut [u8])
     requires { ⌜ Matrix m n (now cells) × Positions m (now order) × (length (now reaches) ≡ 129) ⌝ }
-    ensures { λ _. ⌜ Begins (stateReach (matrixGrid m n (now (cells .entry))) (entries (now (order .entry)))) (m + 1) (now (reaches .exit)) ⌝ }
+    ensures { λ _. ⌜ Begins (stateReach (matrixGrid m n (now (cells .entry))) (nth (now (order .entry)))) (m + 1) (now (reaches .exit)) ⌝ }
 {
     let states = m + 1;
     let mut s = 0;
@@ -93,7 +93,7 @@ fn positions_conflict(n: usize, cells: &[u8], p: usize, q: usize) -> bool
 // 1 where the fragment at place i agrees with a side's state, and 0 where not.
 fn may_join(m: usize, n: usize, cells: &[u8], order: &[u8], s: usize, i: usize) -> u8
     requires { ⌜ Matrix m n (now cells) × Positions m (now order) × (s ≤ i) × (i < m) ⌝ }
-    ensures { λ r. ⌜ r ≡ bit (mayJoin (matrixGrid m n (now (cells .entry))) (entries (now (order .entry))) s i) ⌝ }
+    ensures { λ r. ⌜ r ≡ bit (mayJoin (matrixGrid m n (now (cells .entry))) (nth (now (order .entry))) s i) ⌝ }
 {
     if s == 0 {
         return 1;
@@ -116,7 +116,7 @@ pub(crate) fn fill_agreements(
     agrees: &mut [u8],
 )
     requires { ⌜ Matrix m n (now cells) × Positions m (now order) × (i < m) × (length (now agrees) ≡ 129) ⌝ }
-    ensures { λ _. ⌜ Begins (λ s. bit (mayJoin (matrixGrid m n (now (cells .entry))) (entries (now (order .entry))) s i)) (i + 1) (now (agrees .exit)) ⌝ }
+    ensures { λ _. ⌜ Begins (λ s. bit (mayJoin (matrixGrid m n (now (cells .entry))) (nth (now (order .entry))) s i)) (i + 1) (now (agrees .exit)) ⌝ }
 {
     let states = i + 1;
     let mut s = 0;

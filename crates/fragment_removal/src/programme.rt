@@ -5,14 +5,13 @@ use ranks::table;
 ghost use mathlib.Core.Path.{_≡_};
 ghost use Prim.Native.Nat.{_+_, _*_, _-_, _<_, _≤_, min};
 ghost use lib.ListN.{length, replicate};
-ghost use Rattle.below.specs.Below.{if_then_else_, tab};
+ghost use Rattle.below.specs.Below.{if_then_else_, tab, nth};
 ghost use Rattle.conflicts.specs.Choice.{marked, zeros};
 ghost use Rattle.conflicts.specs.Grid.{matrixGrid};
 ghost use Rattle.conflicts.specs.Removal.{fragmentKeepMarks};
 ghost use Rattle.ranks.specs.Algorithm.Weight.{digitAt};
 ghost use Rattle.ranks.specs.Algorithm.Reading.{code, value};
 ghost use Rattle.ranks.specs.Algorithm.Tables.{at, Inside, Sweep, Cleared};
-ghost use Rattle.fragment_removal.specs.Algorithm.Fragments.{entries};
 ghost use Rattle.matrix.specs.Algorithm.Matrix.{Gapless};
 ghost use Rattle.fragment_removal.specs.Algorithm.Programme.{furthest, chooseFragment, withFragment};
 ghost use Rattle.fragment_removal.specs.Algorithm.Pairs.{pairs, flat, Prepared, PairPlaces, Fits, FragmentRoom, Made, HoldsFragments};
@@ -20,7 +19,7 @@ ghost use Rattle.fragment_removal.specs.Algorithm.Pairs.{pairs, flat, Pr
 // The state of a side once the fragment at place i has joined it.
 fn furthest_of(reaches: &[u8], s: usize, i: usize) -> usize
     requires { ⌜ (length (now reaches) ≡ 129) × (s ≤ i) × (i < 128) ⌝ }
-    ensures { λ r. ⌜ r ≡ furthest (entries (now (reaches .entry))) s i ⌝ }
+    ensures { λ r. ⌜ r ≡ furthest (nth (now (reaches .entry))) s i ⌝ }
 {
     let next = i + 1;
     if reaches[s] < reaches[next] {
@@ -63,9 +62,9 @@ fn weight_at(
     may: bool,
 ) -> Rank
     requires { ⌜ PairPlaces (now counts) (now highs) (now lows) × (length (now agrees) ≡ 129) × (length (now reaches) ≡ 129) × (h ≤ i) × (l ≤ i) × (i < 128) × (one ≤ i + 1)
-        × Fits out (pairs (now counts) (now highs) (now lows) one l) (pairs (now counts) (now highs) (now lows) h (furthest (entries (now reaches)) l i)) (pairs (now counts) (now highs) (now lows) h l) ⌝ }
+        × Fits out (pairs (now counts) (now highs) (now lows) one l) (pairs (now counts) (now highs) (now lows) h (furthest (nth (now reaches)) l i)) (pairs (now counts) (now highs) (now lows) h l) ⌝ }
     ensures { λ r. ⌜ (value r ≡ chooseFragment may (marked (now (agrees .entry)) l) (value out) (pairs (now (counts .entry)) (now (highs .entry)) (now (lows .entry)) one l)
-        (pairs (now (counts .entry)) (now (highs .entry)) (now (lows .entry)) h (furthest (entries (now (reaches .entry))) l i)) (pairs (now (counts .entry)) (now (highs .entry)) (now (lows .entry)) h l))
+        (pairs (now (counts .entry)) (now (highs .entry)) (now (lows .entry)) h (furthest (nth (now (reaches .entry))) l i)) (pairs (now (counts .entry)) (now (highs .entry)) (now (lows .entry)) h l))
         × (r .count < 65536) ⌝ }
 {
     let two = furthest_of(reaches, l, i);
@@ -89,7 +88,7 @@ fn row(
 )
     requires { ⌜ PairPlaces (now counts) (now highs) (now lows) × (length (now agrees) ≡ 129) × (length (now reaches) ≡ 129) × (h ≤ i) × (i < 128)
         × FragmentRoom out h (i + 1) (pairs (now counts) (now highs) (now lows)) ⌝ }
-    ensures { λ _. ⌜ Sweep (flat (withFragment (marked (now (agrees .entry))) (entries (now (reaches .entry))) (value out) i (pairs (now (counts .entry)) (now (highs .entry)) (now (lows .entry)))))
+    ensures { λ _. ⌜ Sweep (flat (withFragment (marked (now (agrees .entry))) (nth (now (reaches .entry))) (value out) i (pairs (now (counts .entry)) (now (highs .entry)) (now (lows .entry)))))
         (at (now (counts .entry)) (now (highs .entry)) (now (lows .entry))) (at (now (counts .exit)) (now (highs .exit)) (now (lows .exit))) (h * 129) (h * 129 + (i + 1)) ⌝ }
 {
     let one = furthest_of(reaches, h, i);
@@ -116,7 +115,7 @@ fn layer(
 )
     requires { ⌜ PairPlaces (now counts) (now highs) (now lows) × (length (now agrees) ≡ 129) × (length (now reaches) ≡ 129) × (i < 128)
         × FragmentRoom out 0 (i + 1) (pairs (now counts) (now highs) (now lows)) ⌝ }
-    ensures { λ _. ⌜ Made (withFragment (marked (now (agrees .entry))) (entries (now (reaches .entry))) (value out) i (pairs (now (counts .entry)) (now (highs .entry)) (now (lows .entry))))
+    ensures { λ _. ⌜ Made (withFragment (marked (now (agrees .entry))) (nth (now (reaches .entry))) (value out) i (pairs (now (counts .entry)) (now (highs .entry)) (now (lows .entry))))
         (pairs (now (counts .exit)) (now (highs .exit)) (now (lows .exit))) (i + 1) ⌝ }
 {
     let states = i + 1;
@@ -140,8 +139,8 @@ fn extend(
     k: usize,
 )
     requires { ⌜ Prepared m n (now cells) (now order) (now reaches) × (k < m) × PairPlaces (now counts) (now highs) (now lows)
-        × HoldsFragments (matrixGrid m n (now cells)) (entries (now order)) k (pairs (now counts) (now highs) (now lows)) ⌝ }
-    ensures { λ _. ⌜ HoldsFragments (matrixGrid m n (now (cells .entry))) (entries (now (order .entry))) (k + 1) (pairs (now (counts .exit)) (now (highs .exit)) (now (lows .exit))) ⌝ }
+        × HoldsFragments (matrixGrid m n (now cells)) (nth (now order)) k (pairs (now counts) (now highs) (now lows)) ⌝ }
+    ensures { λ _. ⌜ HoldsFragments (matrixGrid m n (now (cells .entry))) (nth (now (order .entry))) (k + 1) (pairs (now (counts .exit)) (now (highs .exit)) (now (lows .exit))) ⌝ }
 {
     let i = m - 1 - k;
     let mut agrees = [0u8; 129];
@@ -163,8 +162,8 @@ fn suffixes(
     lows: &mut [u64],
 )
     requires { ⌜ Prepared m n (now cells) (now order) (now reaches) × PairPlaces (now counts) (now highs) (now lows)
-        × HoldsFragments (matrixGrid m n (now cells)) (entries (now order)) 0 (pairs (now counts) (now highs) (now lows)) ⌝ }
-    ensures { λ _. ⌜ HoldsFragments (matrixGrid m n (now (cells .entry))) (entries (now (order .entry))) m (pairs (now (counts .exit)) (now (highs .exit)) (now (lows .exit))) ⌝ }
+        × HoldsFragments (matrixGrid m n (now cells)) (nth (now order)) 0 (pairs (now counts) (now highs) (now lows)) ⌝ }
+    ensures { λ _. ⌜ HoldsFragments (matrixGrid m n (now (cells .entry))) (nth (now (order .entry))) m (pairs (now (counts .exit)) (now (highs .exit)) (now (lows .exit))) ⌝ }
 {
     let mut k = 0;
     while k < m {

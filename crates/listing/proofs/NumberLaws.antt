@@ -69,10 +69,6 @@ pub decimal-some : (x : ℕ) → 0 < length (decimal x)
 unfolding decimal digitsOf
 decimal-some x = rw length-append (omega arith)
 
-pub block-short : (block : ℕ) → block < 256 → length (blockWord block) ≤ 3
-unfolding blockWord ascii
-block-short block h = if-ind (λ (l : List ℕ). length l ≤ 3) (block == 255) (λ t. omega arith) (λ t. decimal-short 2 block (omega arith))
-
 pub block-some : (block : ℕ) → 0 < length (blockWord block)
 unfolding blockWord ascii
 block-some block = if-ind (λ (l : List ℕ). 0 < length l) (block == 255) (λ t. omega arith) (λ t. decimal-some block)

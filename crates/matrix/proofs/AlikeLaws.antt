@@ -38,13 +38,6 @@ lowest-alike m p q same i hi =
 -- ---- the same cells
 
 module _ (g : Grid) (cell : ℕ → ℕ → ℕ) (same : (i c : ℕ) → i < g .m → c < g .n → g .cell i c ≡ cell i c) where
-  pub mixed-cells : (c : ℕ) → c < g .n → mixed g c ≡ mixed (withCells g cell) c
-  unfolding mixed withCells
-  mixed-cells c hc = ap₂ _and_ (letter 1) (letter 2)
-    where
-      letter : (x : ℕ) → anyBelow (g .m) (λ i. g .cell i c == x) ≡ anyBelow (g .m) (λ i. cell i c == x)
-      letter x = any-ext (g .m) _ _ (λ i hi. ap (λ (y : ℕ). y == x) (same i c hi hc))
-
   pub depth-cells : (c : ℕ) → c < g .n → depth g c ≡ depth (withCells g cell) c
   unfolding depth withCells
   depth-cells c hc = count-ext (g .m) _ _ (λ i hi. ap isCall (same i c hi hc))

@@ -22,7 +22,7 @@ pub fn fill_matrix(n: usize, table: &[u8], cells: &mut [u8])
 }
 
 // The cell of fragment i at column c, and 0 past the end.
-pub fn cell_at(cells: &[u8], i: usize, c: usize) -> u8
+fn cell_at(cells: &[u8], i: usize, c: usize) -> u8
     ensures { λ r. ⌜ r ≡ getD (now (cells .entry)) (i * 128 + c) 0 ⌝ }
 {
     let rows = cells.len() / 128;

@@ -3,7 +3,6 @@ mod cells;
 mod room;
 
 pub use cells::call_at;
-pub use cells::cell_at;
 pub use cells::fill_matrix;
 pub use room::all_kept;
 pub use room::blank_cells;

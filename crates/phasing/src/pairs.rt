@@ -113,7 +113,7 @@ fn set_pair(
 }
 
 // The matrix of the related pairs of kept fragments on kept columns, 128 marks to a fragment: neighbours for blocks, conflicts otherwise.
-pub fn fill_pairs(
+pub(crate) fn fill_pairs(
     blocks: bool,
     n: usize,
     cells: &[u8],

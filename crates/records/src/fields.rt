@@ -38,7 +38,7 @@ pub fn span(part: &[u8]) -> u8
 }
 
 // Byte 7, which a table that is accepted has as 0.
-pub fn byte7(part: &[u8]) -> u8
+pub(crate) fn byte7(part: &[u8]) -> u8
     ensures { λ r. ⌜ r ≡ byte7Of (now (part .entry)) ⌝ }
 {
     byte(part, 7)

@@ -6,7 +6,6 @@ mod rules;
 mod table;
 
 pub use fields::byte;
-pub use fields::byte7;
 pub use fields::cell;
 pub use fields::is_call;
 pub use fields::span;

@@ -9,38 +9,28 @@ use Rattle.conflicts.proofs.MarkLaws.{unmarked, marked-test}
 use Rattle.conflicts.proofs.conflict_at.Statement.{statement}
 use Rattle.conflicts.proofs.conflict_at.Tie as tie
 
-byte-requires : tie.Need-byte-requires
-byte-requires c κs = search needs
-
 returns : tie.Need-returns
 unfolding marked
 returns c = unmarked _ _ (sym (c .before .byte .ensures) ∙ c .if1 .taken)
 
-byte-requires-2 : tie.Need-byte-requires-2
-byte-requires-2 c κs = search needs
-
-byte-requires-3 : tie.Need-byte-requires-3
-byte-requires-3 c κs = search needs
-
-calls-conflict-requires : tie.Need-calls-conflict-requires
-calls-conflict-requires c κs = search needs
-
 returns-2 : tie.Need-returns-2
 unfolding marked
 returns-2 c =
-    let a = c .before .before .before .before .before .before .before .before .args in
+    let byte = c .before .before .before .before .byte in
+    let start = c .before .before .before .before .before .before .before .before in
+    let a = start .args in
     let b = callsConflict (getD (a .first .now) (a .c) 0) (getD (a .second .now) (a .c) 0) in
     c .calls-conflict .ensures
     ∙ ap₂ callsConflict (c .before .before .byte2 .ensures) (c .before .byte3 .ensures)
-    ∙ marked-test (getD (a .marks .now) (a .c) 0) b (λ e. c .before .before .before .if1 .left (c .before .before .before .before .byte .ensures ∙ e))
+    ∙ marked-test (getD (a .marks .now) (a .c) 0) b (λ e. c .before .before .before .if1 .left (byte .ensures ∙ e))
 
 pub conflict-at-spec : {M : Type 1} → statement M
 conflict-at-spec =
     tie.close
     (tie.spec
-    byte-requires
+    (λ c κs. search needs)
     returns
-    byte-requires-2
-    byte-requires-3
-    calls-conflict-requires
+    (λ c κs. search needs)
+    (λ c κs. search needs)
+    (λ c κs. search needs)
     returns-2)

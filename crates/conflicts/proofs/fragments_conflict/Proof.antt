@@ -27,27 +27,20 @@ abbrev μ-loop : tie.MeasureT-loop
 loop-holds : tie.Need-loop-holds Inv-loop μ-loop
 loop-holds c = (search needs, none-yet _)
 
-conflict-at-requires : tie.Need-conflict-at-requires Inv-loop μ-loop
-conflict-at-requires c κs = search needs
-
 returns : tie.Need-returns Inv-loop μ-loop
 unfolding rowsConflict test
 returns c =
+    let start = c .before .before .before .before .before .before .before in
     let lp = c .before .before .before .loop in
-    let a = c .before .before .before .before .before .before .before .args in
+    let a = start .args in
     sym (any-hit (length (a .marks .now)) (test (a .first .now) (a .second .now) (a .marks .now)) (lp .c) (c .before .before .loop-test .taken) (sym (c .before .conflict-at .ensures) ∙ c .if1 .taken))
-
-add-c : tie.Need-add-c Inv-loop μ-loop
-add-c c = search needs
-
-loop-less : tie.Need-loop-less Inv-loop μ-loop
-loop-less c = search needs
 
 loop-again : tie.Need-loop-again Inv-loop μ-loop
 unfolding test
 loop-again c =
+    let start = c .before .before .before .before .before .before .before in
     let lp = c .before .before .before .loop in
-    let a = c .before .before .before .before .before .before .before .args in
+    let a = start .args in
     (search needs, none-more (lp .c) (test (a .first .now) (a .second .now) (a .marks .now)) (lp .inv .1) (sym (c .before .conflict-at .ensures) ∙ c .if1 .left))
 
 returns-2 : tie.Need-returns-2 Inv-loop μ-loop
@@ -63,9 +56,9 @@ fragments-conflict-spec =
     Inv-loop
     μ-loop
     loop-holds
-    conflict-at-requires
+    (λ c κs. search needs)
     returns
-    add-c
-    loop-less
+    (λ c. search needs)
+    (λ c. search needs)
     loop-again
     returns-2)

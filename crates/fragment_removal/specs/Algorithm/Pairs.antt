@@ -9,7 +9,8 @@ use Rattle.ranks.specs.declared.rank.Rank.{Rank}
 use Rattle.ranks.specs.Algorithm.Weight.{top, AtMost}
 use Rattle.ranks.specs.Algorithm.Reading.{code}
 use Rattle.ranks.specs.Algorithm.Tables.{at}
-use Rattle.fragment_removal.specs.Algorithm.Fragments.{start, Ordered, Begins, entries}
+use Rattle.fragment_removal.specs.Algorithm.Fragments.{start, Ordered, Begins}
+use Rattle.below.specs.Below.{nth}
 use Rattle.matrix.specs.Algorithm.Matrix.{Matrix}
 use Rattle.fragment_removal.specs.Algorithm.Programme.{stateReach, leastFragmentWeight}
 
@@ -32,8 +33,8 @@ pub record Prepared (m n : ℕ) (cells order reaches : List ℕ) : Type 0 where
   pub matrix : Matrix m n cells
   pub order-size : length order ≡ 128
   pub reaches-size : length reaches ≡ 129
-  pub ordered : Ordered m (start (matrixGrid m n cells)) (entries order)
-  pub reaching : Begins (stateReach (matrixGrid m n cells) (entries order)) (m + 1) reaches
+  pub ordered : Ordered m (start (matrixGrid m n cells)) (nth order)
+  pub reaching : Begins (stateReach (matrixGrid m n cells) (nth order)) (m + 1) reaches
 
 -- weights that have room for one removal more
 pub record Fits (out : Rank) (one two rest : ℕ) : Type 0 where

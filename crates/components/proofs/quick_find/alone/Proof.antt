@@ -18,30 +18,18 @@ abbrev μ-loop : tie.MeasureT-loop
 loop-holds : tie.Need-loop-holds Inv-loop μ-loop
 loop-holds c = (search needs, sweep-none _ _, sweep-none _ _)
 
-shared-slice-read-keep : tie.Need-shared-slice-read-keep Inv-loop μ-loop
-shared-slice-read-keep c = search needs
-
-own-label-requires : tie.Need-own-label-requires Inv-loop μ-loop
-own-label-requires c κs = search needs
-
 slice-write-labels : tie.Need-slice-write-labels Inv-loop μ-loop
 slice-write-labels c = let e = c .before .before .before .loop .inv .1 .sized in search needs
 
-own-side-requires : tie.Need-own-side-requires Inv-loop μ-loop
-own-side-requires c κs = search needs
-
 slice-write-sides : tie.Need-slice-write-sides Inv-loop μ-loop
-slice-write-sides c = let e = c .before .before .before .before .loop .inv .2 .sized in search needs
-
-add-k : tie.Need-add-k Inv-loop μ-loop
-add-k c = search needs
-
-loop-less : tie.Need-loop-less Inv-loop μ-loop
-loop-less c = search needs
+slice-write-sides c =
+    let loop = c .before .before .before .before .loop in
+    let e = loop .inv .2 .sized in search needs
 
 loop-again : tie.Need-loop-again Inv-loop μ-loop
 loop-again c =
-    let lp = c .before .before .before .before .loop in
+    let loop = c .before .before .before .before .loop in
+    let lp = loop in
     let e = lp .inv .1 .sized in
     let f = lp .inv .2 .sized in
     (search needs, sweep-set (lp .labels) (lp .k) _ (lp .inv .1) (search needs) (c .before .own-label .ensures), sweep-set (lp .sides) (lp .k) _ (lp .inv .2) (search needs) (c .own-side .ensures))
@@ -54,10 +42,11 @@ same-length-2 c = c .before .loop .inv .1 .sized
 
 returns : tie.Need-returns Inv-loop μ-loop
 returns c =
+    let start = c .before .before .before .before .before in
     let lp = c .before .loop in
-    let a = c .before .before .before .before .before .args in
+    let a = start .args in
     let e : lp .k ≡ a .m = omega arith in
-    λ pair. begun (a .m) (c .before .before .before .before .before .pre .0) (a .kept .now) pair (rw e at (lp .inv .1)) (rw e at (lp .inv .2))
+    λ pair. begun (a .m) (start .pre .0) (a .kept .now) pair (rw e at (lp .inv .1)) (rw e at (lp .inv .2))
 
 pub alone-spec : {M : Type 1} → statement M
 alone-spec =
@@ -66,13 +55,13 @@ alone-spec =
     Inv-loop
     μ-loop
     loop-holds
-    shared-slice-read-keep
-    own-label-requires
+    (λ c. search needs)
+    (λ c κs. search needs)
     slice-write-labels
-    own-side-requires
+    (λ c κs. search needs)
     slice-write-sides
-    add-k
-    loop-less
+    (λ c. search needs)
+    (λ c. search needs)
     loop-again
     same-length
     same-length-2

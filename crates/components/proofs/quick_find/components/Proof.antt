@@ -17,33 +17,25 @@ Inv-loop m matrix kept sides₀ labels₀ ok₀ k₀ sides labels ok k = (k ≤ 
 abbrev μ-loop : tie.MeasureT-loop
 μ-loop m matrix kept sides₀ labels₀ ok₀ k₀ sides labels ok k = 16384 - k
 
-alone-requires : tie.Need-alone-requires Inv-loop μ-loop
-alone-requires c κs = search needs
-
 loop-holds : tie.Need-loop-holds Inv-loop μ-loop
-loop-holds c = (search needs, search needs, search needs, c .before .before .before .before .alone .ensures (marks (c .before .before .before .before .before .before .before .before .before .before .before .args .matrix .now)))
+loop-holds c =
+    let alone = c .before .before .before .before .alone in
+    let start = c .before .before .before .before .before .before .before .before .before .before .before in
+    (search needs, search needs, search needs, alone .ensures (marks (start .args .matrix .now)))
 
 join-requires : tie.Need-join-requires Inv-loop μ-loop
 join-requires c κs =
-    let p = c .before .before .before .before .before .before .before .before .before .before .before .before .before .before .before .pre in
+    let start = c .before .before .before .before .before .before .before .before .before .before .before .before .before .before .before in
+    let p = start .pre in
     (p .0, p .1, search needs, search needs, search needs, p .5)
-
-add-k : tie.Need-add-k Inv-loop μ-loop
-add-k c = search needs
-
-loop-less : tie.Need-loop-less Inv-loop μ-loop
-loop-less c = search needs
 
 loop-again : tie.Need-loop-again Inv-loop μ-loop
 loop-again c =
-    let a = c .before .before .before .before .before .before .before .before .before .before .before .before .before .before .before .before .before .before .before .before .args in
-    (search needs, search needs, search needs, c .before .before .before .before .join .ensures .on (marked (a .kept .now)) (c .before .before .before .before .before .before .before .before .before .before .before .before .before .before .before .before .before .before .before .before .pre .6) (c .before .before .before .before .before .before .before .before .loop .inv .3))
-
-same-length : tie.Need-same-length Inv-loop μ-loop
-same-length c = search needs
-
-same-length-2 : tie.Need-same-length-2 Inv-loop μ-loop
-same-length-2 c = search needs
+    let join = c .before .before .before .before .join in
+    let loop = c .before .before .before .before .before .before .before .before .loop in
+    let start = c .before .before .before .before .before .before .before .before .before .before .before .before .before .before .before .before .before .before .before .before in
+    let a = start .args in
+    (search needs, search needs, search needs, join .ensures .on (marked (a .kept .now)) (start .pre .6) (loop .inv .3))
 
 returns : tie.Need-returns Inv-loop μ-loop
 returns c =
@@ -57,12 +49,12 @@ components-spec =
     (tie.spec
     Inv-loop
     μ-loop
-    alone-requires
+    (λ c κs. search needs)
     loop-holds
     join-requires
-    add-k
-    loop-less
+    (λ c. search needs)
+    (λ c. search needs)
     loop-again
-    same-length
-    same-length-2
+    (λ c. search needs)
+    (λ c. search needs)
     returns)

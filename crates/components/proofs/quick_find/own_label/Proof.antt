@@ -6,9 +6,6 @@ use Rattle.below.proofs.TestLaws.{if-lt, if-ge}
 use Rattle.components.proofs.quick_find.own_label.Statement.{statement}
 use Rattle.components.proofs.quick_find.own_label.Tie as tie
 
-cast-result : tie.Need-cast-result
-cast-result c = search needs
-
 returns : tie.Need-returns
 returns c = sym (if-lt _ _ (c .if1 .taken))
 
@@ -16,4 +13,4 @@ returns-2 : tie.Need-returns-2
 returns-2 c = sym (if-ge _ _ (c .if1 .left))
 
 pub own-label-spec : {M : Type 1} → statement M
-own-label-spec = tie.close (tie.spec cast-result returns returns-2)
+own-label-spec = tie.close (tie.spec (λ c. search needs) returns returns-2)

@@ -26,28 +26,22 @@ slice-read-x c = let e = c .before .before .loop .inv .1 .sized in search needs
 slice-read-new-side : tie.Need-slice-read-new-side Inv-loop μ-loop
 slice-read-new-side c = let e = c .before .before .before .loop .inv .2 .sized in search needs
 
-new-side-requires : tie.Need-new-side-requires Inv-loop μ-loop
-new-side-requires c κs = search needs
-
 slice-write-sides : tie.Need-slice-write-sides Inv-loop μ-loop
-slice-write-sides c = let e = c .before .before .before .before .loop .inv .2 .sized in search needs
-
-new-label-requires : tie.Need-new-label-requires Inv-loop μ-loop
-new-label-requires c κs = search needs
+slice-write-sides c =
+    let loop = c .before .before .before .before .loop in
+    let e = loop .inv .2 .sized in search needs
 
 slice-write-labels : tie.Need-slice-write-labels Inv-loop μ-loop
-slice-write-labels c = let e = c .before .before .before .before .before .loop .inv .1 .sized in search needs
-
-add-k : tie.Need-add-k Inv-loop μ-loop
-add-k c = search needs
-
-loop-less : tie.Need-loop-less Inv-loop μ-loop
-loop-less c = search needs
+slice-write-labels c =
+    let loop = c .before .before .before .before .before .loop in
+    let e = loop .inv .1 .sized in search needs
 
 loop-again : tie.Need-loop-again Inv-loop μ-loop
 loop-again c =
-    let lp = c .before .before .before .before .before .loop in
-    let a = c .before .before .before .before .before .before .before .before .args in
+    let loop = c .before .before .before .before .before .loop in
+    let start = c .before .before .before .before .before .before .before .before in
+    let lp = loop in
+    let a = start .args in
     let e = lp .inv .1 .sized in
     let f = lp .inv .2 .sized in
     let el : nth (lp .labels) (lp .k) ≡ nth (a .labels .now) (lp .k) = lp .inv .1 .rest (lp .k) (le-refl (lp .k)) in
@@ -65,8 +59,9 @@ same-length-2 c = c .before .loop .inv .1 .sized
 
 returns : tie.Need-returns Inv-loop μ-loop
 returns c =
+    let start = c .before .before .before .before in
     let lp = c .before .loop in
-    let e : lp .k ≡ c .before .before .before .before .args .m = omega arith in
+    let e : lp .k ≡ start .args .m = omega arith in
     joined (rw e at (lp .inv .1)) (rw e at (lp .inv .2))
 
 pub relabel-spec : {M : Type 1} → statement M
@@ -78,12 +73,12 @@ relabel-spec =
     loop-holds
     slice-read-x
     slice-read-new-side
-    new-side-requires
+    (λ c κs. search needs)
     slice-write-sides
-    new-label-requires
+    (λ c κs. search needs)
     slice-write-labels
-    add-k
-    loop-less
+    (λ c. search needs)
+    (λ c. search needs)
     loop-again
     same-length
     same-length-2

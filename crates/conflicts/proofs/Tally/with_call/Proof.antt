@@ -7,15 +7,9 @@ use borrow.Author.Needs.{needs}
 use Rattle.conflicts.proofs.Tally.with_call.Statement.{statement}
 use Rattle.conflicts.proofs.Tally.with_call.Tie as tie
 
-one-more-requires : tie.Need-one-more-requires
-one-more-requires c κs = search needs
-
 returns : tie.Need-returns
 unfolding tallied _==_
 returns c = rw (c .before .if1 .taken, c .one-more .ensures)
-
-one-more-requires-2 : tie.Need-one-more-requires-2
-one-more-requires-2 c κs = search needs
 
 returns-2 : tie.Need-returns-2
 unfolding tallied _==_
@@ -27,4 +21,4 @@ returns-3 c = rw (ne-eqb _ _ (c .before .if1 .left), ne-eqb _ _ (c .if2 .left))
 
 pub with-call-spec : {M : Type 1} → statement M
 with-call-spec =
-    tie.close (tie.spec one-more-requires returns one-more-requires-2 returns-2 returns-3)
+    tie.close (tie.spec (λ c κs. search needs) returns (λ c κs. search needs) returns-2 returns-3)

@@ -17,22 +17,15 @@ abbrev μ-loop : tie.MeasureT-loop
 μ-loop m n cells starts ends slots₀ c₀ slots c = n - c
 
 loop-holds : tie.Need-loop-holds Inv-loop μ-loop
-loop-holds c = (zero-le, c .before .before .before .before .pre .3)
+loop-holds c =
+    let start-step = c .before .before .before .before in
+    (zero-le, start-step .pre .3)
 
 slot-column-requires : tie.Need-slot-column-requires Inv-loop μ-loop
 slot-column-requires c κs = let s = c .before .before .before .before .before .before .before in (s .pre .0, s .pre .1, s .pre .2, c .before .loop-test .taken, c .before .before .loop .inv .1)
 
-add-c : tie.Need-add-c Inv-loop μ-loop
-add-c c = search needs
-
-loop-less : tie.Need-loop-less Inv-loop μ-loop
-loop-less c = search needs
-
 loop-again : tie.Need-loop-again Inv-loop μ-loop
 loop-again c = (search needs, c .before .before .slot-column .ensures)
-
-same-length : tie.Need-same-length Inv-loop μ-loop
-same-length c = search needs
 
 returns : tie.Need-returns Inv-loop μ-loop
 unfolding matrixGrid
@@ -52,8 +45,8 @@ fill-slots-spec =
     μ-loop
     loop-holds
     slot-column-requires
-    add-c
-    loop-less
+    (λ c. search needs)
+    (λ c. search needs)
     loop-again
-    same-length
+    (λ c. search needs)
     returns)

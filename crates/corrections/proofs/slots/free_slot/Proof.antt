@@ -29,20 +29,16 @@ is-used-requires c κs = let s = c .before .before .before .before .before .befo
 returns : tie.Need-returns Inv-loop μ-loop
 unfolding freeSlot
 returns c =
+    let start = c .before .before .before .before .before .before .before .before in
     let l = c .before .before .before .loop in
-    let a = c .before .before .before .before .before .before .before .before .args in
+    let a = start .args in
     sym (first-hit 8 (λ (x : ℕ). isnt (used (firstColumn (matrixGrid (a .m) (a .n) (a .cells .now))) (covers (matrixGrid (a .m) (a .n) (a .cells .now))) (a .m) (a .c) (a .turn) (nth (a .slots .now)) x)) (l .b) (c .before .before .loop-test .taken) (l .inv .1) (free-yes (c .before .is-used .ensures) (c .if1 .taken)))
-
-add-b : tie.Need-add-b Inv-loop μ-loop
-add-b c = search needs
-
-loop-less : tie.Need-loop-less Inv-loop μ-loop
-loop-less c = search needs
 
 loop-again : tie.Need-loop-again Inv-loop μ-loop
 loop-again c =
+    let start = c .before .before .before .before .before .before .before .before in
     let l = c .before .before .before .loop in
-    let a = c .before .before .before .before .before .before .before .before .args in
+    let a = start .args in
     (search needs, none-more (l .b) (λ (x : ℕ). isnt (used (firstColumn (matrixGrid (a .m) (a .n) (a .cells .now))) (covers (matrixGrid (a .m) (a .n) (a .cells .now))) (a .m) (a .c) (a .turn) (nth (a .slots .now)) x)) (l .inv .1) (free-no (c .before .is-used .ensures) (c .if1 .left)))
 
 returns-2 : tie.Need-returns-2 Inv-loop μ-loop
@@ -58,7 +54,7 @@ free-slot-spec =
     loop-holds
     is-used-requires
     returns
-    add-b
-    loop-less
+    (λ c. search needs)
+    (λ c. search needs)
     loop-again
     returns-2)

@@ -16,22 +16,15 @@ abbrev μ-loop : tie.MeasureT-loop
 μ-loop m n cells starts ends slots₀ c f₀ slots f = m - f
 
 loop-holds : tie.Need-loop-holds Inv-loop μ-loop
-loop-holds c = (zero-le, c .before .before .before .before .pre .4)
+loop-holds c =
+    let start = c .before .before .before .before in
+    (zero-le, start .pre .4)
 
 slot-one-requires : tie.Need-slot-one-requires Inv-loop μ-loop
 slot-one-requires c κs = let s = c .before .before .before .before .before .before .before in (s .pre .0, s .pre .1, s .pre .2, s .pre .3, c .before .loop-test .taken, c .before .before .loop .inv .1)
 
-add-f : tie.Need-add-f Inv-loop μ-loop
-add-f c = search needs
-
-loop-less : tie.Need-loop-less Inv-loop μ-loop
-loop-less c = search needs
-
 loop-again : tie.Need-loop-again Inv-loop μ-loop
 loop-again c = (search needs, c .before .before .slot-one .ensures)
-
-same-length : tie.Need-same-length Inv-loop μ-loop
-same-length c = search needs
 
 returns : tie.Need-returns Inv-loop μ-loop
 unfolding matrixGrid
@@ -50,8 +43,8 @@ slot-column-spec =
     μ-loop
     loop-holds
     slot-one-requires
-    add-f
-    loop-less
+    (λ c. search needs)
+    (λ c. search needs)
     loop-again
-    same-length
+    (λ c. search needs)
     returns)

@@ -7,29 +7,8 @@ use Rattle.corrections.proofs.GrantLaws.{grant, pass}
 use Rattle.corrections.proofs.slots.slot_one.Statement.{statement}
 use Rattle.corrections.proofs.slots.slot_one.Tie as tie
 
-mul-s : tie.Need-mul-s
-mul-s c = search needs
-
-shared-slice-read-s : tie.Need-shared-slice-read-s
-shared-slice-read-s c = search needs
-
-mul-free-slot : tie.Need-mul-free-slot
-mul-free-slot c = search needs
-
-add-free-slot : tie.Need-add-free-slot
-add-free-slot c = search needs
-
 free-slot-requires : tie.Need-free-slot-requires
 free-slot-requires c κs = let s = c .before .before .before .before .before .before .before in (s .pre .0, s .pre .1, s .pre .5 .size)
-
-mul-slots : tie.Need-mul-slots
-mul-slots c = search needs
-
-slice-write-slots : tie.Need-slice-write-slots
-slice-write-slots c = search needs
-
-same-length : tie.Need-same-length
-same-length c = search needs
 
 returns : tie.Need-returns
 unfolding matrixGrid
@@ -50,13 +29,13 @@ pub slot-one-spec : {M : Type 1} → statement M
 slot-one-spec =
     tie.close
     (tie.spec
-    mul-s
-    shared-slice-read-s
-    mul-free-slot
-    add-free-slot
+    (λ c. search needs)
+    (λ c. search needs)
+    (λ c. search needs)
+    (λ c. search needs)
     free-slot-requires
-    mul-slots
-    slice-write-slots
-    same-length
+    (λ c. search needs)
+    (λ c. search needs)
+    (λ c. search needs)
     returns
     returns-2)

@@ -26,14 +26,12 @@ abbrev μ-loop : tie.MeasureT-loop
 loop-holds : tie.Need-loop-holds Inv-loop μ-loop
 loop-holds c = let s = c .before .before .before .before .before .before .before in (le-refl _, s .pre .1, s .pre .2)
 
-sub-c : tie.Need-sub-c Inv-loop μ-loop
-sub-c c = search needs
-
 column-requires : tie.Need-column-requires Inv-loop μ-loop
 column-requires c κs =
+    let loop = c .before .before .before .before .loop in
     let s = c .before .before .before .before .before .before .before .before .before .before .before .before in
     let a = s .args in
-    let l = c .before .before .before .before .loop in
+    let l = loop in
     let le = l .inv .0 in
     let some = c .before .before .before .loop-test .taken in
     let e : l .c ≡ l .c - 1 + 1 = omega arith in (
@@ -43,26 +41,16 @@ column-requires c κs =
       subst (λ (x : ℕ). HoldsAll (matrixGrid (a .m) (a .n) (a .cells .now)) (a .slots .now) (eventsFrom (firstColumn (matrixGrid (a .m) (a .n) (a .cells .now))) (a .m) x (a .n - x)) (at (l .counts) (l .highs) (l .lows))) e (l .inv .2),
     )
 
-loop-less : tie.Need-loop-less Inv-loop μ-loop
-loop-less c = search needs
-
 loop-again : tie.Need-loop-again Inv-loop μ-loop
 loop-again c =
-    let l = c .before .before .before .before .before .before .before .before .before .before .before .loop in
+    let column-step = c .before .before .before .before .before .before .column in
+    let loop = c .before .before .before .before .before .before .before .before .before .before .before .loop in
+    let l = loop in
     let le = l .inv .0 in (
       omega arith,
       record { counts-size = search needs; highs-size = search needs; lows-size = search needs },
-      c .before .before .before .before .before .before .column .ensures,
+      column-step .ensures,
     )
-
-same-length : tie.Need-same-length Inv-loop μ-loop
-same-length c = search needs
-
-same-length-2 : tie.Need-same-length-2 Inv-loop μ-loop
-same-length-2 c = search needs
-
-same-length-3 : tie.Need-same-length-3 Inv-loop μ-loop
-same-length-3 c = search needs
 
 returns : tie.Need-returns Inv-loop μ-loop
 unfolding matrixGrid
@@ -79,11 +67,11 @@ all-columns-spec =
     Inv-loop
     μ-loop
     loop-holds
-    sub-c
+    (λ c. search needs)
     column-requires
-    loop-less
+    (λ c. search needs)
     loop-again
-    same-length
-    same-length-2
-    same-length-3
+    (λ c. search needs)
+    (λ c. search needs)
+    (λ c. search needs)
     returns)

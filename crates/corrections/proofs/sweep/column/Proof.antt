@@ -24,9 +24,6 @@ Inv-loop m n cells starts ends slots counts₀ highs₀ lows₀ c f₀ counts hi
 abbrev μ-loop : tie.MeasureT-loop
 μ-loop m n cells starts ends slots counts₀ highs₀ lows₀ c f₀ counts highs lows f = f
 
-slice-aggregate-gather : tie.Need-slice-aggregate-gather Inv-loop μ-loop
-slice-aggregate-gather c = search needs
-
 gather-requires : tie.Need-gather-requires Inv-loop μ-loop
 gather-requires c κs =
     let s = c .before .before .before .before .before .before .before .before in
@@ -34,36 +31,34 @@ gather-requires c κs =
     let r = s .pre .0 in
     (r .matrix, r .spanned, r .slotted, s .pre .2, gathered-none (matrixGrid (a .m) (a .n) (a .cells .now)) (a .slots .now) (a .c) _ refl (λ b. zeros-at 8 b))
 
-slice-aggregate-charge : tie.Need-slice-aggregate-charge Inv-loop μ-loop
-slice-aggregate-charge c = search needs
-
 charge-requires : tie.Need-charge-requires Inv-loop μ-loop
 unfolding matrixGrid
 charge-requires c κs =
+    let gather = c .before .before .before .before .before .gather in
     let s = c .before .before .before .before .before .before .before .before .before .before .before .before .before .before in
     let a = s .args in
     let r = s .pre .0 in
     let lt = s .pre .2 in
-    (c .before .before .before .before .before .gather .ensures .size, s .pre .1, column-room (matrixGrid (a .m) (a .n) (a .cells .now)) (a .slots .now) (r .shallow) (r .matrix .rows) (r .matrix .columns) (a .c + 1) (a .n - (a .c + 1)) (at (a .counts .now) (a .highs .now) (a .lows .now)) (omega arith) (s .pre .3))
+    (gather .ensures .size, s .pre .1, column-room (matrixGrid (a .m) (a .n) (a .cells .now)) (a .slots .now) (r .shallow) (r .matrix .rows) (r .matrix .columns) (a .c + 1) (a .n - (a .c + 1)) (at (a .counts .now) (a .highs .now) (a .lows .now)) (omega arith) (s .pre .3))
 
 loop-holds : tie.Need-loop-holds Inv-loop μ-loop
 unfolding matrixGrid
 loop-holds c =
+    let charge = c .before .before .before .before .before .before .charge in
+    let gather = c .before .before .before .before .before .before .before .before .before .before .before .before .gather in
     let s = c .before .before .before .before .before .before .before .before .before .before .before .before .before .before .before .before .before .before .before .before .before in
     let a = s .args in (
       le-refl _,
       record { counts-size = search needs; highs-size = search needs; lows-size = search needs },
-      step-charge (matrixGrid (a .m) (a .n) (a .cells .now)) (a .slots .now) (s .pre .0 .slotted) _ (a .c) (a .n - (a .c + 1)) (at (a .counts .now) (a .highs .now) (a .lows .now)) _ (s .pre .2) (c .before .before .before .before .before .before .before .before .before .before .before .before .gather .ensures) (s .pre .3) (c .before .before .before .before .before .before .charge .ensures),
+      step-charge (matrixGrid (a .m) (a .n) (a .cells .now)) (a .slots .now) (s .pre .0 .slotted) _ (a .c) (a .n - (a .c + 1)) (at (a .counts .now) (a .highs .now) (a .lows .now)) _ (s .pre .2) (gather .ensures) (s .pre .3) (charge .ensures),
     )
-
-sub-f : tie.Need-sub-f Inv-loop μ-loop
-sub-f c = search needs
 
 enter-if-requires : tie.Need-enter-if-requires Inv-loop μ-loop
 enter-if-requires c κs =
+    let loop = c .before .before .before .before .loop in
     let s = c .before .before .before .before .before .before .before .before .before .before .before .before .before .before .before .before .before .before .before .before .before .before .before .before .before .before in
     let a = s .args in
-    let l = c .before .before .before .before .loop in
+    let l = loop in
     let le = l .inv .0 in
     let some = c .before .before .before .loop-test .taken in
     let e : l .f ≡ l .f - 1 + 1 = omega arith in (
@@ -74,26 +69,16 @@ enter-if-requires c κs =
       subst (λ (x : ℕ). HoldsAll (matrixGrid (a .m) (a .n) (a .cells .now)) (a .slots .now) (partOf (firstColumn (matrixGrid (a .m) (a .n) (a .cells .now))) (a .m) (a .c) x (a .m - x) (a .n - (a .c + 1))) (at (l .counts) (l .highs) (l .lows))) e (l .inv .2),
     )
 
-loop-less : tie.Need-loop-less Inv-loop μ-loop
-loop-less c = search needs
-
 loop-again : tie.Need-loop-again Inv-loop μ-loop
 loop-again c =
-    let l = c .before .before .before .before .before .before .before .before .before .before .before .loop in
+    let enter-if = c .before .before .before .before .before .before .enter-if in
+    let loop = c .before .before .before .before .before .before .before .before .before .before .before .loop in
+    let l = loop in
     let le = l .inv .0 in (
       omega arith,
       record { counts-size = search needs; highs-size = search needs; lows-size = search needs },
-      c .before .before .before .before .before .before .enter-if .ensures,
+      enter-if .ensures,
     )
-
-same-length : tie.Need-same-length Inv-loop μ-loop
-same-length c = search needs
-
-same-length-2 : tie.Need-same-length-2 Inv-loop μ-loop
-same-length-2 c = search needs
-
-same-length-3 : tie.Need-same-length-3 Inv-loop μ-loop
-same-length-3 c = search needs
 
 returns : tie.Need-returns Inv-loop μ-loop
 unfolding matrixGrid
@@ -109,16 +94,16 @@ column-spec =
     (tie.spec
     Inv-loop
     μ-loop
-    slice-aggregate-gather
+    (λ c. search needs)
     gather-requires
-    slice-aggregate-charge
+    (λ c. search needs)
     charge-requires
     loop-holds
-    sub-f
+    (λ c. search needs)
     enter-if-requires
-    loop-less
+    (λ c. search needs)
     loop-again
-    same-length
-    same-length-2
-    same-length-3
+    (λ c. search needs)
+    (λ c. search needs)
+    (λ c. search needs)
     returns)

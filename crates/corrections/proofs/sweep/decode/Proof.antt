@@ -18,26 +18,8 @@ abbrev μ-loop : tie.MeasureT-loop
 loop-holds : tie.Need-loop-holds Inv-loop μ-loop
 loop-holds c = filled-none _ _ _ (c .before .pre .1)
 
-digit-requires : tie.Need-digit-requires Inv-loop μ-loop
-digit-requires c κs = search needs
-
-add-sides : tie.Need-add-sides Inv-loop μ-loop
-add-sides c = search needs
-
-slice-write-sides : tie.Need-slice-write-sides Inv-loop μ-loop
-slice-write-sides c = search needs
-
-add-p : tie.Need-add-p Inv-loop μ-loop
-add-p c = search needs
-
-loop-less : tie.Need-loop-less Inv-loop μ-loop
-loop-less c = search needs
-
 loop-again : tie.Need-loop-again Inv-loop μ-loop
 loop-again c = let l = c .before .before .loop in filled-more _ _ (l .p) (l .sides) _ (l .inv) (c .before .loop-test .taken) (ap (λ (d : ℕ). 1 + d) (c .digit .ensures))
-
-same-length : tie.Need-same-length Inv-loop μ-loop
-same-length c = search needs
 
 returns : tie.Need-returns Inv-loop μ-loop
 returns c = let l = c .before .loop in filled-all _ _ (l .p) (l .sides) (l .inv) (c .loop-test .left)
@@ -49,11 +31,11 @@ decode-spec =
     Inv-loop
     μ-loop
     loop-holds
-    digit-requires
-    add-sides
-    slice-write-sides
-    add-p
-    loop-less
+    (λ c κs. search needs)
+    (λ c. search needs)
+    (λ c. search needs)
+    (λ c. search needs)
+    (λ c. search needs)
     loop-again
-    same-length
+    (λ c. search needs)
     returns)

@@ -10,21 +10,10 @@ use Rattle.corrections.proofs.StepLaws.{part-room, step-skip, step-ente
 use Rattle.corrections.proofs.sweep.enter_if.Statement.{statement}
 use Rattle.corrections.proofs.sweep.enter_if.Tie as tie
 
-mul-s : tie.Need-mul-s
-mul-s c = search needs
-
-shared-slice-read-s : tie.Need-shared-slice-read-s
-shared-slice-read-s c = search needs
-
-mul-b : tie.Need-mul-b
-mul-b c = search needs
-
-shared-slice-read-b : tie.Need-shared-slice-read-b
-shared-slice-read-b c = search needs
-
 enter-requires : tie.Need-enter-requires
 unfolding matrixGrid
 enter-requires c κs =
+    let if1 = c .before .before .before .before .if1 in
     let s = c .before .before .before .before .before .before .before .before .before .before .before .before .before in
     let a = s .args in
     let r = s .pre .0 in
@@ -36,28 +25,21 @@ enter-requires c κs =
       omega arith,
       r .slotted .low (a .f),
       part-room (matrixGrid (a .m) (a .n) (a .cells .now)) (a .slots .now) (r .shallow) (r .matrix .rows) (r .matrix .columns) (a .c) (a .n - (a .c + 1)) (a .f) (at (a .counts .now) (a .highs .now) (a .lows .now)) fits (s .pre .3)
-          (sym (r .spanned .begins (a .f) (s .pre .3)) ∙ c .before .before .before .before .if1 .taken) (s .pre .4),
+          (sym (r .spanned .begins (a .f) (s .pre .3)) ∙ if1 .taken) (s .pre .4),
     )
-
-same-length : tie.Need-same-length
-same-length c = search needs
-
-same-length-2 : tie.Need-same-length-2
-same-length-2 c = search needs
-
-same-length-3 : tie.Need-same-length-3
-same-length-3 c = search needs
 
 returns : tie.Need-returns
 unfolding matrixGrid
 returns c =
+    let enter = c .before .before .before .before .before .before .enter in
+    let if1 = c .before .before .before .before .before .before .before .before .before .before .before .if1 in
     let s = c .before .before .before .before .before .before .before .before .before .before .before .before .before .before .before .before .before .before .before .before in
     let a = s .args in
     let r = s .pre .0 in
     let lt = s .pre .2 in
     let fits : a .c + suc (a .n - (a .c + 1)) ≤ a .n = omega arith in
     step-enter (matrixGrid (a .m) (a .n) (a .cells .now)) (a .slots .now) (r .slotted) (a .c) (a .n - (a .c + 1)) (a .f) (at (a .counts .now) (a .highs .now) (a .lows .now)) _ fits (s .pre .3)
-    (sym (r .spanned .begins (a .f) (s .pre .3)) ∙ c .before .before .before .before .before .before .before .before .before .before .before .if1 .taken) (s .pre .4) (c .before .before .before .before .before .before .enter .ensures)
+    (sym (r .spanned .begins (a .f) (s .pre .3)) ∙ if1 .taken) (s .pre .4) (enter .ensures)
 
 returns-2 : tie.Need-returns-2
 unfolding matrixGrid
@@ -71,13 +53,13 @@ pub enter-if-spec : {M : Type 1} → statement M
 enter-if-spec =
     tie.close
     (tie.spec
-    mul-s
-    shared-slice-read-s
-    mul-b
-    shared-slice-read-b
+    (λ c. search needs)
+    (λ c. search needs)
+    (λ c. search needs)
+    (λ c. search needs)
     enter-requires
-    same-length
-    same-length-2
-    same-length-3
+    (λ c. search needs)
+    (λ c. search needs)
+    (λ c. search needs)
     returns
     returns-2)

@@ -16,26 +16,20 @@ abbrev μ-loop : tie.MeasureT-loop
 μ-loop m n cells starts ends slots letters₀ c i₀ letters i = m - i
 
 loop-holds : tie.Need-loop-holds Inv-loop μ-loop
-loop-holds c = (zero-le, c .before .before .before .before .before .pre .4)
+loop-holds c =
+    let start = c .before .before .before .before .before in
+    (zero-le, start .pre .4)
 
 gather-one-requires : tie.Need-gather-one-requires Inv-loop μ-loop
 gather-one-requires c κs = let s = c .before .before .before .before .before .before .before .before in (s .pre .0, s .pre .1, s .pre .2, s .pre .3, c .before .loop-test .taken, c .before .before .loop .inv .1)
 
-add-i : tie.Need-add-i Inv-loop μ-loop
-add-i c = search needs
-
-loop-less : tie.Need-loop-less Inv-loop μ-loop
-loop-less c = search needs
-
 loop-again : tie.Need-loop-again Inv-loop μ-loop
 loop-again c = (search needs, c .before .before .gather-one .ensures)
 
-same-length : tie.Need-same-length Inv-loop μ-loop
-same-length c = search needs
-
 returns : tie.Need-returns Inv-loop μ-loop
 returns c =
-    let a = c .before .before .before .before .before .before .before .args in
+    let start = c .before .before .before .before .before .before .before in
+    let a = start .args in
     let l = c .before .loop in
     let e : l .i ≡ a .m = omega arith in
     subst (λ (k : ℕ). Gathered (matrixGrid (a .m) (a .n) (a .cells .now)) (a .slots .now) (a .c) k (l .letters)) e (l .inv .1)
@@ -48,8 +42,8 @@ gather-spec =
     μ-loop
     loop-holds
     gather-one-requires
-    add-i
-    loop-less
+    (λ c. search needs)
+    (λ c. search needs)
     loop-again
-    same-length
+    (λ c. search needs)
     returns)

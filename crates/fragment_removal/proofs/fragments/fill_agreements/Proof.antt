@@ -5,46 +5,39 @@ use Prim.Native.Nat.{_-_, _≤_}
 use native.Mathlib.Omega.{arith}
 use lib.ListN.{length}
 use borrow.Author.Needs.{needs}
-use Rattle.below.specs.Below.{bit}
+use Rattle.below.specs.Below.{bit, nth}
 use Rattle.conflicts.specs.Grid.{matrixGrid}
-use Rattle.fragment_removal.specs.Algorithm.Fragments.{Begins, entries}
+use Rattle.fragment_removal.specs.Algorithm.Fragments.{Begins}
 use Rattle.fragment_removal.specs.Algorithm.Programme.{mayJoin}
 use Rattle.fragment_removal.proofs.OrderLaws.{begins-none, begins-more}
 use Rattle.fragment_removal.proofs.fragments.fill_agreements.Statement.{statement}
 use Rattle.fragment_removal.proofs.fragments.fill_agreements.Tie as tie
 
 abbrev Inv-loop : tie.InvT-loop
-Inv-loop m n cells order i agrees₀ states s₀ agrees s = (s ≤ states) × (length agrees ≡ 129) × Begins (λ q. bit (mayJoin (matrixGrid m n cells) (entries order) q i)) s agrees
+Inv-loop m n cells order i agrees₀ states s₀ agrees s = (s ≤ states) × (length agrees ≡ 129) × Begins (λ q. bit (mayJoin (matrixGrid m n cells) (nth order) q i)) s agrees
 
 abbrev μ-loop : tie.MeasureT-loop
 μ-loop m n cells order i agrees₀ states s₀ agrees s = states - s
-
-add-states : tie.Need-add-states Inv-loop μ-loop
-add-states c = search needs
 
 loop-holds : tie.Need-loop-holds Inv-loop μ-loop
 loop-holds c = (search needs, search needs, begins-none _ _)
 
 may-join-requires : tie.Need-may-join-requires Inv-loop μ-loop
-may-join-requires c κs = let p = c .before .before .before .before .before .pre in (p .0, p .1, omega arith, p .2)
+may-join-requires c κs =
+    let start = c .before .before .before .before .before in
+    let p = start .pre in (p .0, p .1, omega arith, p .2)
 
 slice-write-agrees : tie.Need-slice-write-agrees Inv-loop μ-loop
-slice-write-agrees c = let h = c .before .before .before .before .before .before .pre .0 .rows in omega arith
-
-add-s : tie.Need-add-s Inv-loop μ-loop
-add-s c = search needs
-
-loop-less : tie.Need-loop-less Inv-loop μ-loop
-loop-less c = search needs
+slice-write-agrees c =
+    let start = c .before .before .before .before .before .before in
+    let h = start .pre .0 .rows in omega arith
 
 loop-again : tie.Need-loop-again Inv-loop μ-loop
 loop-again c =
+    let start = c .before .before .before .before .before .before in
     let l = c .before .before .loop in
-    let h = c .before .before .before .before .before .before .pre .0 .rows in
+    let h = start .pre .0 .rows in
     (search needs, search needs, begins-more _ (l .s) (l .agrees) _ (l .inv .2) (omega arith) (c .may-join .ensures))
-
-same-length : tie.Need-same-length Inv-loop μ-loop
-same-length c = search needs
 
 returns : tie.Need-returns Inv-loop μ-loop
 returns c = let l = c .before .loop in record { begins = λ q h. l .inv .2 .begins q (omega arith) }
@@ -55,12 +48,12 @@ fill-agreements-spec =
     (tie.spec
     Inv-loop
     μ-loop
-    add-states
+    (λ c. search needs)
     loop-holds
     may-join-requires
     slice-write-agrees
-    add-s
-    loop-less
+    (λ c. search needs)
+    (λ c. search needs)
     loop-again
-    same-length
+    (λ c. search needs)
     returns)

@@ -4,7 +4,7 @@ use Prim.Native.Nat.{_-_}
 use native.Mathlib.Omega.{arith}
 use borrow.Author.Needs.{needs}
 use Rattle.conflicts.specs.Grid.{matrixGrid}
-use Rattle.fragment_removal.specs.Algorithm.Fragments.{entries}
+use Rattle.below.specs.Below.{nth}
 use Rattle.fragment_removal.proofs.ReadLaws.{join-none, join-no, join-yes}
 use Rattle.fragment_removal.proofs.fragments.may_join.Statement.{statement}
 use Rattle.fragment_removal.proofs.fragments.may_join.Tie as tie
@@ -12,20 +12,15 @@ use Rattle.fragment_removal.proofs.fragments.may_join.Tie as tie
 returns : tie.Need-returns
 returns c = join-none _ _ _ _ (c .if1 .taken)
 
-sub-wide : tie.Need-sub-wide
-sub-wide c = search needs
-
 shared-slice-read-wide : tie.Need-shared-slice-read-wide
-shared-slice-read-wide c = let s = c .before .before .before .before .pre in let r = s .0 .rows in let z = s .1 .size in omega arith
-
-wide-requires : tie.Need-wide-requires
-wide-requires c κs = search needs
+shared-slice-read-wide c =
+    let start = c .before .before .before .before in
+    let s = start .pre in let r = s .0 .rows in let z = s .1 .size in omega arith
 
 shared-slice-read-wide-2 : tie.Need-shared-slice-read-wide-2
-shared-slice-read-wide-2 c = let s = c .before .before .before .before .before .before .pre in let r = s .0 .rows in let z = s .1 .size in omega arith
-
-wide-requires-2 : tie.Need-wide-requires-2
-wide-requires-2 c κs = search needs
+shared-slice-read-wide-2 c =
+    let start = c .before .before .before .before .before .before in
+    let s = start .pre in let r = s .0 .rows in let z = s .1 .size in omega arith
 
 positions-conflict-requires : tie.Need-positions-conflict-requires
 positions-conflict-requires c κs =
@@ -41,27 +36,29 @@ positions-conflict-requires c κs =
 returns-2 : tie.Need-returns-2
 unfolding matrixGrid
 returns-2 c =
+    let wide = c .before .before .before .before .wide in
     let s = c .before .before .before .before .before .before .before .before .before in
     let a = s .args in
-    join-no (matrixGrid (a .m) (a .n) (a .cells .now)) (entries (a .order .now)) (a .s) (a .i) _ _ (omega arith) (c .before .before .before .before .wide .ensures) (c .before .before .wide2 .ensures) (c .before .positions-conflict .ensures (a .m)) (c .if2 .taken)
+    join-no (matrixGrid (a .m) (a .n) (a .cells .now)) (nth (a .order .now)) (a .s) (a .i) _ _ (omega arith) (wide .ensures) (c .before .before .wide2 .ensures) (c .before .positions-conflict .ensures (a .m)) (c .if2 .taken)
 
 returns-3 : tie.Need-returns-3
 unfolding matrixGrid
 returns-3 c =
+    let wide = c .before .before .before .before .wide in
     let s = c .before .before .before .before .before .before .before .before .before in
     let a = s .args in
-    join-yes (matrixGrid (a .m) (a .n) (a .cells .now)) (entries (a .order .now)) (a .s) (a .i) _ _ (omega arith) (c .before .before .before .before .wide .ensures) (c .before .before .wide2 .ensures) (c .before .positions-conflict .ensures (a .m)) (c .if2 .left)
+    join-yes (matrixGrid (a .m) (a .n) (a .cells .now)) (nth (a .order .now)) (a .s) (a .i) _ _ (omega arith) (wide .ensures) (c .before .before .wide2 .ensures) (c .before .positions-conflict .ensures (a .m)) (c .if2 .left)
 
 pub may-join-spec : {M : Type 1} → statement M
 may-join-spec =
     tie.close
     (tie.spec
     returns
-    sub-wide
+    (λ c. search needs)
     shared-slice-read-wide
-    wide-requires
+    (λ c κs. search needs)
     shared-slice-read-wide-2
-    wide-requires-2
+    (λ c κs. search needs)
     positions-conflict-requires
     returns-2
     returns-3)

@@ -9,48 +9,6 @@ use Rattle.fragment_removal.proofs.ReadLaws.{conflict-read}
 use Rattle.fragment_removal.proofs.fragments.positions_conflict.Statement.{statement}
 use Rattle.fragment_removal.proofs.fragments.positions_conflict.Tie as tie
 
-mul-first : tie.Need-mul-first
-mul-first c = search needs
-
-mul-second : tie.Need-mul-second
-mul-second c = search needs
-
-add-fragments-conflict : tie.Need-add-fragments-conflict
-add-fragments-conflict c = search needs
-
-sub-fragments-conflict : tie.Need-sub-fragments-conflict
-sub-fragments-conflict c = search needs
-
-part-fragments-conflict-start : tie.Need-part-fragments-conflict-start
-part-fragments-conflict-start c = search needs
-
-part-fragments-conflict-end : tie.Need-part-fragments-conflict-end
-part-fragments-conflict-end c = search needs
-
-add-fragments-conflict-2 : tie.Need-add-fragments-conflict-2
-add-fragments-conflict-2 c = search needs
-
-sub-fragments-conflict-2 : tie.Need-sub-fragments-conflict-2
-sub-fragments-conflict-2 c = search needs
-
-part-fragments-conflict-start-2 : tie.Need-part-fragments-conflict-start-2
-part-fragments-conflict-start-2 c = search needs
-
-part-fragments-conflict-end-2 : tie.Need-part-fragments-conflict-end-2
-part-fragments-conflict-end-2 c = search needs
-
-sub-fragments-conflict-3 : tie.Need-sub-fragments-conflict-3
-sub-fragments-conflict-3 c = search needs
-
-part-fragments-conflict-start-3 : tie.Need-part-fragments-conflict-start-3
-part-fragments-conflict-start-3 c = search needs
-
-part-fragments-conflict-end-3 : tie.Need-part-fragments-conflict-end-3
-part-fragments-conflict-end-3 c = search needs
-
-fragments-conflict-requires : tie.Need-fragments-conflict-requires
-fragments-conflict-requires c κs = search needs
-
 returns : tie.Need-returns
 returns c =
     let s = c .before .before .before .before .before .before in
@@ -61,18 +19,18 @@ pub positions-conflict-spec : {M : Type 1} → statement M
 positions-conflict-spec =
     tie.close
     (tie.spec
-    mul-first
-    mul-second
-    add-fragments-conflict
-    sub-fragments-conflict
-    part-fragments-conflict-start
-    part-fragments-conflict-end
-    add-fragments-conflict-2
-    sub-fragments-conflict-2
-    part-fragments-conflict-start-2
-    part-fragments-conflict-end-2
-    sub-fragments-conflict-3
-    part-fragments-conflict-start-3
-    part-fragments-conflict-end-3
-    fragments-conflict-requires
+    (λ c. search needs)
+    (λ c. search needs)
+    (λ c. search needs)
+    (λ c. search needs)
+    (λ c. search needs)
+    (λ c. search needs)
+    (λ c. search needs)
+    (λ c. search needs)
+    (λ c. search needs)
+    (λ c. search needs)
+    (λ c. search needs)
+    (λ c. search needs)
+    (λ c. search needs)
+    (λ c κs. search needs)
     returns)

@@ -6,46 +6,30 @@ use native.Mathlib.Omega.{arith}
 use borrow.Author.Needs.{needs}
 use Rattle.conflicts.specs.Grid.{matrixGrid}
 use Rattle.ranks.specs.Algorithm.Reading.{value}
-use Rattle.fragment_removal.specs.Algorithm.Fragments.{entries}
+use Rattle.below.specs.Below.{nth}
 use Rattle.fragment_removal.specs.Algorithm.Programme.{mayJoin}
 use Rattle.fragment_removal.specs.Algorithm.Pairs.{pairs}
-use Rattle.fragment_removal.proofs.OrderLaws.{inside}
 use Rattle.fragment_removal.proofs.PairLaws.{removal-of, begins-marks, holds-room, holds-more}
 use Rattle.fragment_removal.proofs.programme.extend.Statement.{statement}
 use Rattle.fragment_removal.proofs.programme.extend.Tie as tie
-
-sub-i : tie.Need-sub-i
-sub-i c = search needs
-
-sub-i-2 : tie.Need-sub-i-2
-sub-i-2 c = search needs
-
-slice-aggregate-fill-agreements : tie.Need-slice-aggregate-fill-agreements
-slice-aggregate-fill-agreements c = search needs
 
 fill-agreements-requires : tie.Need-fill-agreements-requires
 unfolding matrixGrid
 fill-agreements-requires c κs =
     let p = c .before .before .before .before .before .before .before .pre .0 in
-    (p .matrix, record { size = p .order-size; below = inside (p .ordered) }, omega arith, search needs)
+    (p .matrix, record { size = p .order-size; below = p .ordered .below }, omega arith, search needs)
 
 shared-slice-read-wide : tie.Need-shared-slice-read-wide
 shared-slice-read-wide c = let p = c .before .before .before .before .before .before .before .before .before .before .pre .0 in let z = p .order-size in let h = p .matrix .rows in omega arith
-
-wide-requires : tie.Need-wide-requires
-wide-requires c κs = search needs
 
 single-requires : tie.Need-single-requires
 unfolding matrixGrid
 single-requires c κs =
     let s = c .before .before .before .before .before .before .before .before .before .before .before in
     let h = s .pre .0 .matrix .rows in
-    let b = inside (s .pre .0 .ordered) (s .args .m - 1 - s .args .k) (omega arith) in
+    let b = s .pre .0 .ordered .below (s .args .m - 1 - s .args .k) (omega arith) in
     let e = c .wide .ensures in
     omega arith
-
-slice-aggregate-layer : tie.Need-slice-aggregate-layer
-slice-aggregate-layer c = search needs
 
 layer-requires : tie.Need-layer-requires
 unfolding matrixGrid
@@ -53,7 +37,7 @@ layer-requires c κs =
     let s = c .before .before .before .before .before .before .before .before .before .before .before .before .before .before .before .before in
     let a = s .args in
     let p = s .pre .0 in
-    let order = entries (a .order .now) in
+    let order = nth (a .order .now) in
     let v = pairs (a .counts .now) (a .highs .now) (a .lows .now) in
     let out = c .before .before .before .before .single in (
       s .pre .2,
@@ -64,15 +48,6 @@ layer-requires c κs =
           (removal-of (order (a .m - 1 - a .k)) (out .ensures) (c .before .before .before .before .before .wide .ensures)),
     )
 
-same-length : tie.Need-same-length
-same-length c = search needs
-
-same-length-2 : tie.Need-same-length-2
-same-length-2 c = search needs
-
-same-length-3 : tie.Need-same-length-3
-same-length-3 c = search needs
-
 returns : tie.Need-returns
 unfolding matrixGrid
 returns c =
@@ -80,26 +55,26 @@ returns c =
     let a = s .args in
     let p = s .pre .0 in
     let g = matrixGrid (a .m) (a .n) (a .cells .now) in
-    let order = entries (a .order .now) in
+    let order = nth (a .order .now) in
     let i = a .m - 1 - a .k in
     let out = c .before .before .before .before .before .before .before .before .before .before .before .single in
-    holds-more g order (a .k) i (pairs (a .counts .now) (a .highs .now) (a .lows .now)) (s .pre .1) refl (s .pre .3) _ (entries (a .reaches .now)) (value (out .result)) _
+    holds-more g order (a .k) i (pairs (a .counts .now) (a .highs .now) (a .lows .now)) (s .pre .1) refl (s .pre .3) _ (nth (a .reaches .now)) (value (out .result)) _
     (begins-marks (λ q. mayJoin g order q i) _ _ (c .before .before .before .before .before .before .before .before .before .before .before .before .before .before .before .fill-agreements .ensures)) (p .reaching .begins) (removal-of (order i) (out .ensures) (c .before .before .before .before .before .before .before .before .before .before .before .before .wide .ensures)) (c .before .before .before .before .before .before .layer .ensures)
 
 pub extend-spec : {M : Type 1} → statement M
 extend-spec =
     tie.close
     (tie.spec
-    sub-i
-    sub-i-2
-    slice-aggregate-fill-agreements
+    (λ c. search needs)
+    (λ c. search needs)
+    (λ c. search needs)
     fill-agreements-requires
     shared-slice-read-wide
-    wide-requires
+    (λ c κs. search needs)
     single-requires
-    slice-aggregate-layer
+    (λ c. search needs)
     layer-requires
-    same-length
-    same-length-2
-    same-length-3
+    (λ c. search needs)
+    (λ c. search needs)
+    (λ c. search needs)
     returns)

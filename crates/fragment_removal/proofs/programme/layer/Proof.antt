@@ -8,7 +8,7 @@ use borrow.Author.Needs.{needs}
 use Rattle.conflicts.specs.Choice.{marked}
 use Rattle.ranks.specs.Algorithm.Reading.{value}
 use Rattle.ranks.specs.Algorithm.Tables.{at}
-use Rattle.fragment_removal.specs.Algorithm.Fragments.{entries}
+use Rattle.below.specs.Below.{nth}
 use Rattle.fragment_removal.specs.Algorithm.Programme.{withFragment}
 use Rattle.fragment_removal.specs.Algorithm.Pairs.{pairs, Rows}
 use Rattle.fragment_removal.proofs.PairLaws.{rows-none, rows-more, rows-room}
@@ -18,52 +18,37 @@ use Rattle.fragment_removal.proofs.programme.layer.Tie as tie
 abbrev Inv-loop : tie.InvT-loop
 Inv-loop counts₀ highs₀ lows₀ agrees reaches out i states h₀ counts highs lows h =
     (h ≤ states) × (length counts ≡ length counts₀) × (length highs ≡ length highs₀) × (length lows ≡ length lows₀)
-    × Rows (withFragment (marked agrees) (entries reaches) (value out) i (pairs counts₀ highs₀ lows₀)) (pairs counts₀ highs₀ lows₀) (pairs counts highs lows) (i + 1) h
+    × Rows (withFragment (marked agrees) (nth reaches) (value out) i (pairs counts₀ highs₀ lows₀)) (pairs counts₀ highs₀ lows₀) (pairs counts highs lows) (i + 1) h
 
 abbrev μ-loop : tie.MeasureT-loop
 μ-loop counts₀ highs₀ lows₀ agrees reaches out i states h₀ counts highs lows h = states - h
-
-add-states : tie.Need-add-states Inv-loop μ-loop
-add-states c = search needs
 
 loop-holds : tie.Need-loop-holds Inv-loop μ-loop
 loop-holds c = (search needs, refl, refl, refl, rows-none _ _ _)
 
 row-requires : tie.Need-row-requires Inv-loop μ-loop
 row-requires c κs =
-    let l = c .before .before .before .before .loop in
+    let loop = c .before .before .before .before .loop in
+    let l = loop in
     let s = c .before .before .before .before .before .before .before .before .before .before in
     let a = s .args in
     let p = s .pre in
     let hi : l .h ≤ a .i = omega arith in
-    (record { counts-size = let z = p .0 .counts-size in search needs; highs-size = let z = p .0 .highs-size in search needs; lows-size = let z = p .0 .lows-size in search needs }, p .1, p .2, hi, p .3, rows-room (marked (a .agrees .now)) (entries (a .reaches .now)) (value (a .out)) (a .i) (at (a .counts .now) (a .highs .now) (a .lows .now)) (at (l .counts) (l .highs) (l .lows)) (l .h) hi (p .3) (l .inv .4) (a .out) (p .4))
-
-add-h : tie.Need-add-h Inv-loop μ-loop
-add-h c = search needs
-
-loop-less : tie.Need-loop-less Inv-loop μ-loop
-loop-less c = search needs
+    (record { counts-size = let z = p .0 .counts-size in search needs; highs-size = let z = p .0 .highs-size in search needs; lows-size = let z = p .0 .lows-size in search needs }, p .1, p .2, hi, p .3, rows-room (marked (a .agrees .now)) (nth (a .reaches .now)) (value (a .out)) (a .i) (at (a .counts .now) (a .highs .now) (a .lows .now)) (at (l .counts) (l .highs) (l .lows)) (l .h) hi (p .3) (l .inv .4) (a .out) (p .4))
 
 loop-again : tie.Need-loop-again Inv-loop μ-loop
 loop-again c =
-    let l = c .before .before .before .before .before .before .before .before .before .before .before .loop in
+    let row = c .before .before .before .before .before .before .row in
+    let loop = c .before .before .before .before .before .before .before .before .before .before .before .loop in
+    let l = loop in
     let s = c .before .before .before .before .before .before .before .before .before .before .before .before .before .before .before .before .before in
     let a = s .args in (
       search needs,
       search needs,
       search needs,
       search needs,
-      rows-more (marked (a .agrees .now)) (entries (a .reaches .now)) (value (a .out)) (a .i) (at (a .counts .now) (a .highs .now) (a .lows .now)) (at (l .counts) (l .highs) (l .lows)) (l .h) (omega arith) (s .pre .3) (l .inv .4) (c .before .before .before .before .before .before .row .ensures),
+      rows-more (marked (a .agrees .now)) (nth (a .reaches .now)) (value (a .out)) (a .i) (at (a .counts .now) (a .highs .now) (a .lows .now)) (at (l .counts) (l .highs) (l .lows)) (l .h) (omega arith) (s .pre .3) (l .inv .4) (row .ensures),
     )
-
-same-length : tie.Need-same-length Inv-loop μ-loop
-same-length c = search needs
-
-same-length-2 : tie.Need-same-length-2 Inv-loop μ-loop
-same-length-2 c = search needs
-
-same-length-3 : tie.Need-same-length-3 Inv-loop μ-loop
-same-length-3 c = search needs
 
 returns : tie.Need-returns Inv-loop μ-loop
 returns c = let l = c .before .loop in record { made = λ h q lh lq. l .inv .4 .done h q (omega arith) lq }
@@ -74,13 +59,13 @@ layer-spec =
     (tie.spec
     Inv-loop
     μ-loop
-    add-states
+    (λ c. search needs)
     loop-holds
     row-requires
-    add-h
-    loop-less
+    (λ c. search needs)
+    (λ c. search needs)
     loop-again
-    same-length
-    same-length-2
-    same-length-3
+    (λ c. search needs)
+    (λ c. search needs)
+    (λ c. search needs)
     returns)

@@ -9,7 +9,7 @@ use Rattle.conflicts.specs.Choice.{marked}
 use Rattle.ranks.specs.Algorithm.Reading.{value}
 use Rattle.ranks.specs.Algorithm.Tables.{at, Sweep}
 use Rattle.ranks.proofs.TableLaws.{put-as, sweep-more}
-use Rattle.fragment_removal.specs.Algorithm.Fragments.{entries}
+use Rattle.below.specs.Below.{nth}
 use Rattle.fragment_removal.specs.Algorithm.Programme.{withFragment}
 use Rattle.fragment_removal.specs.Algorithm.Pairs.{pairs, flat}
 use Rattle.fragment_removal.proofs.PairLaws.{row-weight, row-fits, furthest-range, sweep-none-at, sweep-at}
@@ -19,22 +19,10 @@ use Rattle.fragment_removal.proofs.programme.row.Tie as tie
 abbrev Inv-loop : tie.InvT-loop
 Inv-loop counts₀ highs₀ lows₀ agrees reaches out i h one may start states l₀ counts highs lows l =
     (l ≤ states) × (length counts ≡ length counts₀) × (length highs ≡ length highs₀) × (length lows ≡ length lows₀)
-    × Sweep (flat (withFragment (marked agrees) (entries reaches) (value out) i (pairs counts₀ highs₀ lows₀))) (at counts₀ highs₀ lows₀) (at counts highs lows) (h * 129) (h * 129 + l)
+    × Sweep (flat (withFragment (marked agrees) (nth reaches) (value out) i (pairs counts₀ highs₀ lows₀))) (at counts₀ highs₀ lows₀) (at counts highs lows) (h * 129) (h * 129 + l)
 
 abbrev μ-loop : tie.MeasureT-loop
 μ-loop counts₀ highs₀ lows₀ agrees reaches out i h one may start states l₀ counts highs lows l = states - l
-
-furthest-of-requires : tie.Need-furthest-of-requires Inv-loop μ-loop
-furthest-of-requires c κs = search needs
-
-is-marked-requires : tie.Need-is-marked-requires Inv-loop μ-loop
-is-marked-requires c κs = search needs
-
-mul-start : tie.Need-mul-start Inv-loop μ-loop
-mul-start c = search needs
-
-add-states : tie.Need-add-states Inv-loop μ-loop
-add-states c = search needs
 
 loop-holds : tie.Need-loop-holds Inv-loop μ-loop
 loop-holds c = (search needs, refl, refl, refl, sweep-none-at _ _ _)
@@ -53,23 +41,14 @@ weight-at-requires c κs =
       p .3,
       li,
       p .4,
-      subst (λ (x : ℕ). x ≤ a .i + 1) (sym one) (furthest-range (entries (a .reaches .now)) (a .h) (a .i) (p .3) .1),
-      row-fits (a .h) (l .l) (l .inv .4) (entries (a .reaches .now)) (a .out) (a .i) _ (p .3) li one (p .5),
+      subst (λ (x : ℕ). x ≤ a .i + 1) (sym one) (furthest-range (nth (a .reaches .now)) (a .h) (a .i) (p .3) .1),
+      row-fits (a .h) (l .l) (l .inv .4) (nth (a .reaches .now)) (a .out) (a .i) _ (p .3) li one (p .5),
     )
-
-add-put : tie.Need-add-put Inv-loop μ-loop
-add-put c = search needs
 
 put-requires : tie.Need-put-requires Inv-loop μ-loop
 put-requires c κs =
     let z = c .before .before .before .before .before .before .before .before .before .before .before .before .before .before .before .before .pre .0 in
     (record { in-counts = let k = z .counts-size in search needs; in-highs = let k = z .highs-size in search needs; in-lows = let k = z .lows-size in search needs }, c .before .before .before .weight-at .ensures .1)
-
-add-l : tie.Need-add-l Inv-loop μ-loop
-add-l c = search needs
-
-loop-less : tie.Need-loop-less Inv-loop μ-loop
-loop-less c = search needs
 
 loop-again : tie.Need-loop-again Inv-loop μ-loop
 loop-again c =
@@ -83,18 +62,9 @@ loop-again c =
       search needs,
       sweep-at (sweep-more (let e : a .h * 129 ≤ a .h * 129 + l .l = omega arith in e) (l .inv .4)
           (put-as (c .before .before .before .before .before .before .put .ensures .1)
-          (row-weight (a .h) (l .l) (l .inv .4) (marked (a .agrees .now)) (entries (a .reaches .now)) (value (a .out)) (a .i) _ _ (s .pre .3) li (s .pre .4) (c .before .before .before .before .before .before .before .before .before .before .before .before .before .before .before .before .before .furthest-of .ensures) (c .before .before .before .before .before .before .before .before .before .before .before .before .before .before .before .before .is-marked .ensures) (c .before .before .before .before .before .before .before .before .before .before .weight-at .ensures .0))))
+          (row-weight (a .h) (l .l) (l .inv .4) (marked (a .agrees .now)) (nth (a .reaches .now)) (value (a .out)) (a .i) _ _ (s .pre .3) li (s .pre .4) (c .before .before .before .before .before .before .before .before .before .before .before .before .before .before .before .before .before .furthest-of .ensures) (c .before .before .before .before .before .before .before .before .before .before .before .before .before .before .before .before .is-marked .ensures) (c .before .before .before .before .before .before .before .before .before .before .weight-at .ensures .0))))
           (let e : a .h * 129 + l .l + 1 ≡ a .h * 129 + (l .l + 1) = omega arith in e),
     )
-
-same-length : tie.Need-same-length Inv-loop μ-loop
-same-length c = search needs
-
-same-length-2 : tie.Need-same-length-2 Inv-loop μ-loop
-same-length-2 c = search needs
-
-same-length-3 : tie.Need-same-length-3 Inv-loop μ-loop
-same-length-3 c = search needs
 
 returns : tie.Need-returns Inv-loop μ-loop
 returns c =
@@ -108,18 +78,18 @@ row-spec =
     (tie.spec
     Inv-loop
     μ-loop
-    furthest-of-requires
-    is-marked-requires
-    mul-start
-    add-states
+    (λ c κs. search needs)
+    (λ c κs. search needs)
+    (λ c. search needs)
+    (λ c. search needs)
     loop-holds
     weight-at-requires
-    add-put
+    (λ c. search needs)
     put-requires
-    add-l
-    loop-less
+    (λ c. search needs)
+    (λ c. search needs)
     loop-again
-    same-length
-    same-length-2
-    same-length-3
+    (λ c. search needs)
+    (λ c. search needs)
+    (λ c. search needs)
     returns)

@@ -8,20 +8,16 @@ use Rattle.haplotypes.proofs.HostLaws.{host-read, check-fits}
 use Rattle.haplotypes.proofs.host.haplotypes_check.Statement.{statement}
 use Rattle.haplotypes.proofs.host.haplotypes_check.Tie as tie
 
-check-requires : tie.Need-check-requires
-check-requires c κs = search needs
-
 host-number-requires : tie.Need-host-number-requires
 host-number-requires c κs =
-    let a = c .before .before .before .before .before .before .args in
+    let start = c .before .before .before .before .before .before in
+    let a = start .args in
     (omega arith, subst (HostFits 1000) (sym (c .before .before .check .ensures .0)) (check-fits (a .n) (a .table .now) (a .answer .now)))
-
-same-length : tie.Need-same-length
-same-length c = search needs
 
 returns : tie.Need-returns
 returns c =
-    let a = c .before .before .before .before .before .before .before .args in
+    let start = c .before .before .before .before .before .before .before in
+    let a = start .args in
     let e = c .before .before .before .check .ensures in
     let number = c .host-number .ensures ∙ ap (hostNumber 1000) (e .0) in
     (number, (host-read 1000 (check-fits (a .n) (a .table .now) (a .answer .now)) number, e .1 .0))
@@ -30,7 +26,7 @@ pub haplotypes-check-spec : {M : Type 1} → statement M
 haplotypes-check-spec =
     tie.close
     (tie.spec
-    check-requires
+    (λ c κs. search needs)
     host-number-requires
-    same-length
+    (λ c. search needs)
     returns)

@@ -8,27 +8,19 @@ use Rattle.haplotypes.proofs.HostLaws.{host-read, corrections-fits}
 use Rattle.haplotypes.proofs.host.haplotypes_least_corrections.Statement.{statement}
 use Rattle.haplotypes.proofs.host.haplotypes_least_corrections.Tie as tie
 
-least-corrections-requires : tie.Need-least-corrections-requires
-least-corrections-requires c κs = search needs
-
 host-number-requires : tie.Need-host-number-requires
 host-number-requires c κs =
-    let a = c .before .before .before .before .before .before .before .before .before .before .before .before .before .before .args in
-    (omega arith, subst (HostFits 4294967296) (sym (c .before .before .before .before .before .before .least-corrections .ensures .0)) (corrections-fits (a .n) (a .table .now) (a .answer .now) (a .corrected .now) (a .work .now)))
-
-same-length : tie.Need-same-length
-same-length c = search needs
-
-same-length-2 : tie.Need-same-length-2
-same-length-2 c = search needs
-
-same-length-3 : tie.Need-same-length-3
-same-length-3 c = search needs
+    let least-corrections = c .before .before .before .before .before .before .least-corrections in
+    let start = c .before .before .before .before .before .before .before .before .before .before .before .before .before .before in
+    let a = start .args in
+    (omega arith, subst (HostFits 4294967296) (sym (least-corrections .ensures .0)) (corrections-fits (a .n) (a .table .now) (a .answer .now) (a .corrected .now) (a .work .now)))
 
 returns : tie.Need-returns
 returns c =
-    let a = c .before .before .before .before .before .before .before .before .before .before .before .before .before .before .before .args in
-    let e = c .before .before .before .before .before .before .before .least-corrections .ensures in
+    let least-corrections = c .before .before .before .before .before .before .before .least-corrections in
+    let start = c .before .before .before .before .before .before .before .before .before .before .before .before .before .before .before in
+    let a = start .args in
+    let e = least-corrections .ensures in
     let number = c .host-number .ensures ∙ ap (hostNumber 4294967296) (e .0) in
     (number, (host-read 4294967296 (corrections-fits (a .n) (a .table .now) (a .answer .now) (a .corrected .now) (a .work .now)) number, (e .1 .0, (e .1 .1 .0, e .1 .1 .1 .0))))
 
@@ -36,9 +28,9 @@ pub haplotypes-least-corrections-spec : {M : Type 1} → statement M
 haplotypes-least-corrections-spec =
     tie.close
     (tie.spec
-    least-corrections-requires
+    (λ c κs. search needs)
     host-number-requires
-    same-length
-    same-length-2
-    same-length-3
+    (λ c. search needs)
+    (λ c. search needs)
+    (λ c. search needs)
     returns)

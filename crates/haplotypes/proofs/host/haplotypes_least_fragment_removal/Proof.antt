@@ -8,24 +8,19 @@ use Rattle.haplotypes.proofs.HostLaws.{host-read, fragment-fits}
 use Rattle.haplotypes.proofs.host.haplotypes_least_fragment_removal.Statement.{statement}
 use Rattle.haplotypes.proofs.host.haplotypes_least_fragment_removal.Tie as tie
 
-least-fragment-removal-requires : tie.Need-least-fragment-removal-requires
-least-fragment-removal-requires c κs = search needs
-
 host-number-requires : tie.Need-host-number-requires
 host-number-requires c κs =
-    let a = c .before .before .before .before .before .before .before .before .before .before .args in
-    (omega arith, subst (HostFits 4294967296) (sym (c .before .before .before .before .least-fragment-removal .ensures .0)) (fragment-fits (a .n) (a .table .now) (a .answer .now) (a .work .now)))
-
-same-length : tie.Need-same-length
-same-length c = search needs
-
-same-length-2 : tie.Need-same-length-2
-same-length-2 c = search needs
+    let least-fragment-removal = c .before .before .before .before .least-fragment-removal in
+    let start = c .before .before .before .before .before .before .before .before .before .before in
+    let a = start .args in
+    (omega arith, subst (HostFits 4294967296) (sym (least-fragment-removal .ensures .0)) (fragment-fits (a .n) (a .table .now) (a .answer .now) (a .work .now)))
 
 returns : tie.Need-returns
 returns c =
-    let a = c .before .before .before .before .before .before .before .before .before .before .before .args in
-    let e = c .before .before .before .before .before .least-fragment-removal .ensures in
+    let least-fragment-removal = c .before .before .before .before .before .least-fragment-removal in
+    let start = c .before .before .before .before .before .before .before .before .before .before .before in
+    let a = start .args in
+    let e = least-fragment-removal .ensures in
     let number = c .host-number .ensures ∙ ap (hostNumber 4294967296) (e .0) in
     (number, (host-read 4294967296 (fragment-fits (a .n) (a .table .now) (a .answer .now) (a .work .now)) number, (e .1 .0, e .1 .1 .0)))
 
@@ -33,8 +28,8 @@ pub haplotypes-least-fragment-removal-spec : {M : Type 1} → statement M
 haplotypes-least-fragment-removal-spec =
     tie.close
     (tie.spec
-    least-fragment-removal-requires
+    (λ c κs. search needs)
     host-number-requires
-    same-length
-    same-length-2
+    (λ c. search needs)
+    (λ c. search needs)
     returns)

@@ -8,20 +8,16 @@ use Rattle.haplotypes.proofs.HostLaws.{host-read, pack-fits}
 use Rattle.haplotypes.proofs.host.haplotypes_pack.Statement.{statement}
 use Rattle.haplotypes.proofs.host.haplotypes_pack.Tie as tie
 
-pack-requires : tie.Need-pack-requires
-pack-requires c κs = search needs
-
 host-number-requires : tie.Need-host-number-requires
 host-number-requires c κs =
-    let a = c .before .before .before .before .before .before .before .args in
+    let start = c .before .before .before .before .before .before .before in
+    let a = start .args in
     (omega arith, subst (HostFits 4294967296) (sym (c .before .before .pack .ensures .0)) (pack-fits (a .n) (a .cells .now) (a .tags .now) (a .table .now)))
-
-same-length : tie.Need-same-length
-same-length c = search needs
 
 returns : tie.Need-returns
 returns c =
-    let a = c .before .before .before .before .before .before .before .before .args in
+    let start = c .before .before .before .before .before .before .before .before in
+    let a = start .args in
     let e = c .before .before .before .pack .ensures in
     let number = c .host-number .ensures ∙ ap (hostNumber 4294967296) (e .0) in
     (number, (host-read 4294967296 (pack-fits (a .n) (a .cells .now) (a .tags .now) (a .table .now)) number, e .1))
@@ -30,7 +26,7 @@ pub haplotypes-pack-spec : {M : Type 1} → statement M
 haplotypes-pack-spec =
     tie.close
     (tie.spec
-    pack-requires
+    (λ c κs. search needs)
     host-number-requires
-    same-length
+    (λ c. search needs)
     returns)

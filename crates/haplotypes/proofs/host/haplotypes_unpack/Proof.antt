@@ -8,24 +8,19 @@ use Rattle.haplotypes.proofs.HostLaws.{host-read, unpack-fits}
 use Rattle.haplotypes.proofs.host.haplotypes_unpack.Statement.{statement}
 use Rattle.haplotypes.proofs.host.haplotypes_unpack.Tie as tie
 
-unpack-requires : tie.Need-unpack-requires
-unpack-requires c κs = search needs
-
 host-number-requires : tie.Need-host-number-requires
 host-number-requires c κs =
-    let a = c .before .before .before .before .before .before .before .before .before .before .args in
-    (omega arith, subst (HostFits 4294967296) (sym (c .before .before .before .before .unpack .ensures .0)) (unpack-fits (a .n) (a .table .now) (a .cells .now) (a .tags .now)))
-
-same-length : tie.Need-same-length
-same-length c = search needs
-
-same-length-2 : tie.Need-same-length-2
-same-length-2 c = search needs
+    let unpack = c .before .before .before .before .unpack in
+    let start = c .before .before .before .before .before .before .before .before .before .before in
+    let a = start .args in
+    (omega arith, subst (HostFits 4294967296) (sym (unpack .ensures .0)) (unpack-fits (a .n) (a .table .now) (a .cells .now) (a .tags .now)))
 
 returns : tie.Need-returns
 returns c =
-    let a = c .before .before .before .before .before .before .before .before .before .before .before .args in
-    let e = c .before .before .before .before .before .unpack .ensures in
+    let unpack = c .before .before .before .before .before .unpack in
+    let start = c .before .before .before .before .before .before .before .before .before .before .before in
+    let a = start .args in
+    let e = unpack .ensures in
     let number = c .host-number .ensures ∙ ap (hostNumber 4294967296) (e .0) in
     (number, (host-read 4294967296 (unpack-fits (a .n) (a .table .now) (a .cells .now) (a .tags .now)) number, (e .1 .0, e .1 .1)))
 
@@ -33,8 +28,8 @@ pub haplotypes-unpack-spec : {M : Type 1} → statement M
 haplotypes-unpack-spec =
     tie.close
     (tie.spec
-    unpack-requires
+    (λ c κs. search needs)
     host-number-requires
-    same-length
-    same-length-2
+    (λ c. search needs)
+    (λ c. search needs)
     returns)

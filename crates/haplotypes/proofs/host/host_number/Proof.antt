@@ -10,15 +10,6 @@ use Rattle.haplotypes.proofs.HostLaws.{refused-room}
 use Rattle.haplotypes.proofs.host.host_number.Statement.{statement}
 use Rattle.haplotypes.proofs.host.host_number.Tie as tie
 
-enum-known-outcome : tie.Need-enum-known-outcome
-enum-known-outcome c = search needs
-
-enum-known-outcome-2 : tie.Need-enum-known-outcome-2
-enum-known-outcome-2 c = search needs
-
-cast-result : tie.Need-cast-result
-cast-result c = search needs
-
 mul-result : tie.Need-mul-result
 mul-result c =
     let s = c .before .before .before in
@@ -32,18 +23,22 @@ add-result c =
     search (needs, h)
 
 returns : tie.Need-returns
-returns c = sym (ap (λ (o : Outcome). hostNumber (c .before .before .before .args .base) (outcomeOf o)) (c .before .outcome .given .1))
+returns c =
+    let start = c .before .before .before in
+    sym (ap (λ (o : Outcome). hostNumber (start .args .base) (outcomeOf o)) (c .before .outcome .given .1))
 
 returns-2 : tie.Need-returns-2
-returns-2 c = sym (ap (λ (o : Outcome). hostNumber (c .before .before .before .args .base) (outcomeOf o)) (c .before .outcome2 .given .1))
+returns-2 c =
+    let start = c .before .before .before in
+    sym (ap (λ (o : Outcome). hostNumber (start .args .base) (outcomeOf o)) (c .before .outcome2 .given .1))
 
 pub host-number-spec : {M : Type 1} → statement M
 host-number-spec =
     tie.close
     (tie.spec
-    enum-known-outcome
-    enum-known-outcome-2
-    cast-result
+    (λ c. search needs)
+    (λ c. search needs)
+    (λ c. search needs)
     mul-result
     add-result
     returns

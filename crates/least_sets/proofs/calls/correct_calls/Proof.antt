@@ -18,22 +18,27 @@ least-cost-sides-requires c κs =
 
 correct-cells-requires : tie.Need-correct-cells-requires
 correct-cells-requires c κs =
+    let least-cost-sides = c .before .before .before .before .least-cost-sides in
     let s = c .before .before .before .before .before .before .before .before .before .before .before .before .before in
     let sized = s .pre .0 .0 in
     let kept = s .pre .0 .1 in
     let same = s .pre .1 .0 .0 in
-    (table-matrix sized kept same, table-sides sized kept same (c .before .before .before .before .least-cost-sides .ensures .0), s .pre .1 .1 .1 .0 .1)
+    (table-matrix sized kept same, table-sides sized kept same (least-cost-sides .ensures .0), s .pre .1 .1 .1 .0 .1)
 
 fill-answer-requires : tie.Need-fill-answer-requires
 fill-answer-requires c κs =
+    let correct-cells = c .before .before .before .before .before .correct-cells in
+    let least-cost-sides = c .before .before .before .before .before .before .before .before .before .before .least-cost-sides in
     let s = c .before .before .before .before .before .before .before .before .before .before .before .before .before .before .before .before .before .before .before in
     let sized = s .pre .0 .0 in
     let kept = s .pre .0 .1 in
     let same = s .pre .1 .0 .0 in
-    (table-phasable sized kept same (c .before .before .before .before .before .before .before .before .before .before .least-cost-sides .ensures .0) (c .before .before .before .before .before .correct-cells .ensures) (s .pre .1 .0 .1), s .pre .1 .1 .1 .1 .0)
+    (table-phasable sized kept same (least-cost-sides .ensures .0) (correct-cells .ensures) (s .pre .1 .0 .1), s .pre .1 .1 .1 .1 .0)
 
 fill-records-requires : tie.Need-fill-records-requires
 fill-records-requires c κs =
+    let correct-cells = c .before .before .before .before .before .before .before .before .before .before .correct-cells in
+    let least-cost-sides = c .before .before .before .before .before .before .before .before .before .before .before .before .before .before .before .least-cost-sides in
     let s = c .before .before .before .before .before .before .before .before .before .before .before .before .before .before .before .before .before .before .before .before .before .before .before .before in
     let sized = s .pre .0 .0 in
     let kept = s .pre .0 .1 in
@@ -41,29 +46,20 @@ fill-records-requires c κs =
     let e = sized-count sized in
     let few = sized-m sized in
     let exact = s .pre .1 .1 .1 .1 .1 in
-    (table-two-bits sized kept same (c .before .before .before .before .before .before .before .before .before .before .before .before .before .before .before .least-cost-sides .ensures .0) (c .before .before .before .before .before .before .before .before .before .before .correct-cells .ensures), omega arith, omega arith)
-
-same-length : tie.Need-same-length
-same-length c = search needs
-
-same-length-2 : tie.Need-same-length-2
-same-length-2 c = search needs
-
-same-length-3 : tie.Need-same-length-3
-same-length-3 c = search needs
-
-same-length-4 : tie.Need-same-length-4
-same-length-4 c = search needs
+    (table-two-bits sized kept same (least-cost-sides .ensures .0) (correct-cells .ensures), omega arith, omega arith)
 
 returns : tie.Need-returns
 returns c =
+    let fill-answer = c .before .before .before .before .before .before .before .fill-answer in
+    let correct-cells = c .before .before .before .before .before .before .before .before .before .before .before .before .before .correct-cells in
+    let least-cost-sides = c .before .before .before .before .before .before .before .before .before .before .before .before .before .before .before .before .before .before .least-cost-sides in
     let s = c .before .before .before .before .before .before .before .before .before .before .before .before .before .before .before .before .before .before .before .before .before .before .before .before .before .before .before in
     let sized = s .pre .0 .0 in
     let kept = s .pre .0 .1 in
     let same = s .pre .1 .0 .0 in
-    let least = c .before .before .before .before .before .before .before .before .before .before .before .before .before .before .before .before .before .before .least-cost-sides .ensures in
-    let turned = c .before .before .before .before .before .before .before .before .before .before .before .before .before .correct-cells .ensures in
-    (table-count sized kept same (least .1), (table-correction sized kept same (least .0) turned (s .pre .1 .0 .1) (c .before .before .before .before .before .before .before .fill-answer .ensures), table-records sized kept same (least .0) turned (c .before .before .fill-records .ensures)))
+    let least = least-cost-sides .ensures in
+    let turned = correct-cells .ensures in
+    (table-count sized kept same (least .1), (table-correction sized kept same (least .0) turned (s .pre .1 .0 .1) (fill-answer .ensures), table-records sized kept same (least .0) turned (c .before .before .fill-records .ensures)))
 
 pub correct-calls-spec : {M : Type 1} → statement M
 correct-calls-spec =
@@ -73,8 +69,8 @@ correct-calls-spec =
     correct-cells-requires
     fill-answer-requires
     fill-records-requires
-    same-length
-    same-length-2
-    same-length-3
-    same-length-4
+    (λ c. search needs)
+    (λ c. search needs)
+    (λ c. search needs)
+    (λ c. search needs)
     returns)

@@ -23,24 +23,15 @@ correct-table-requires c κs =
     let e = s .pre .0 .kept in
     ((correction-sized _ _ _ _ _ _ e, correction-kept _ _ _ _ _ _ e), (s .pre .1, (shallow-columns _ _ _ (c .before .before .before .first-deep .ensures) (c .before .before .if1 .left), (correction-answer _ _ _ _ _ _ e, correction-output _ _ _ _ _ _ e))))
 
-clear-requires : tie.Need-clear-requires
-clear-requires c κs = search needs
-
-same-length : tie.Need-same-length
-same-length c = search needs
-
-same-length-2 : tie.Need-same-length-2
-same-length-2 c = search needs
-
-same-length-3 : tie.Need-same-length-3
-same-length-3 c = search needs
-
 returns-2 : tie.Need-returns-2
 returns-2 c =
+    let correct-table = c .before .before .before .before .before .before .before .before .correct-table in
+    let if1 = c .before .before .before .before .before .before .before .before .before .before .before .if1 in
+    let first-deep = c .before .before .before .before .before .before .before .before .before .before .before .before .first-deep in
     let s = c .before .before .before .before .before .before .before .before .before .before .before .before .before .before .before .before .before .before in
     let e = s .pre .0 .kept in
-    let done = c .before .before .before .before .before .before .before .before .correct-table .ensures in
-    let deep = shallow-columns (s .args .m) _ _ (c .before .before .before .before .before .before .before .before .before .before .before .before .first-deep .ensures) (c .before .before .before .before .before .before .before .before .before .before .before .if1 .left) in
+    let done = correct-table .ensures in
+    let deep = shallow-columns (s .args .m) _ _ (first-deep .ensures) (if1 .left) in
     correction-accepts _ _ _ _ _ (s .pre .0) (sym (table-deep (correction-sized _ _ _ _ _ _ e) (correction-kept _ _ _ _ _ _ e) (s .pre .1)) ∙ deep) (done .0) (c .before .before .clear .ensures .zeros) (done .1 .0) (done .1 .1)
 
 pub correct-shallow-spec : {M : Type 1} → statement M
@@ -50,8 +41,8 @@ correct-shallow-spec =
     first-deep-requires
     returns
     correct-table-requires
-    clear-requires
-    same-length
-    same-length-2
-    same-length-3
+    (λ c κs. search needs)
+    (λ c. search needs)
+    (λ c. search needs)
+    (λ c. search needs)
     returns-2)

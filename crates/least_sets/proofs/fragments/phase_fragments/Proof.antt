@@ -11,36 +11,32 @@ use Rattle.least_sets.proofs.fragments.phase_fragments.Tie as tie
 
 fragment-keep-marks-requires : tie.Need-fragment-keep-marks-requires
 fragment-keep-marks-requires c κs =
-    let p = c .before .before .before .before .before .before .before .before .pre in
+    let start = c .before .before .before .before .before .before .before .before in
+    let p = start .pre in
     let h = p .1 .1 .1 .1 .0 in
     (table-matrix (p .0) (p .1 .0) (p .1 .1 .0), table-gapless (p .0) (p .1 .0) (p .1 .1 .0), omega arith, p .1 .1 .1 .1 .1 .0)
 
 phase-requires : tie.Need-phase-requires
 phase-requires c κs =
-    let p = c .before .before .before .before .before .before .before .before .before .before .before .before .before .before .before .pre in (
+    let fragment-keep-marks = c .before .before .before .before .before .before .fragment-keep-marks in
+    let start = c .before .before .before .before .before .before .before .before .before .before .before .before .before .before .before in
+    let p = start .pre in (
       record {
         few = sized-m (p .0);
         narrow = sized-n (p .0);
         cells-long = table-matrix (p .0) (p .1 .0) (p .1 .1 .0) .size;
-        columns = ap length (p .1 .1 .1 .0) ∙ all-length (c .before .before .before .before .before .before .before .before .before .before .before .before .before .before .before .args .n);
-        fragments = c .before .before .before .before .before .before .fragment-keep-marks .kept .1 .1 .1 .1 .0 ∙ p .1 .1 .1 .1 .1 .0;
+        columns = ap length (p .1 .1 .1 .0) ∙ all-length (start .args .n);
+        fragments = fragment-keep-marks .kept .1 .1 .1 .1 .0 ∙ p .1 .1 .1 .1 .1 .0;
       },
       p .1 .1 .1 .1 .1 .1,
     )
 
-same-length : tie.Need-same-length
-same-length c = search needs
-
-same-length-2 : tie.Need-same-length-2
-same-length-2 c = search needs
-
-same-length-3 : tie.Need-same-length-3
-same-length-3 c = search needs
-
 returns : tie.Need-returns
 returns c =
-    let p = c .before .before .before .before .before .before .before .before .before .before .before .before .before .before .before .before .before .before .pre in
-    let e = c .before .before .before .before .before .before .before .before .before .fragment-keep-marks .ensures in
+    let fragment-keep-marks = c .before .before .before .before .before .before .before .before .before .fragment-keep-marks in
+    let start = c .before .before .before .before .before .before .before .before .before .before .before .before .before .before .before .before .before .before in
+    let p = start .pre in
+    let e = fragment-keep-marks .ensures in
     (e .1 ∙ ap zeros (table-fragments (p .0) (p .1 .0) (p .1 .1 .0)), (e .2, table-fragment-answer (p .0) (p .1 .0) (p .1 .1 .0) (p .1 .1 .1 .0) (e .0) (c .before .before .phase .ensures)))
 
 pub phase-fragments-spec : {M : Type 1} → statement M
@@ -49,7 +45,7 @@ phase-fragments-spec =
     (tie.spec
     fragment-keep-marks-requires
     phase-requires
-    same-length
-    same-length-2
-    same-length-3
+    (λ c. search needs)
+    (λ c. search needs)
+    (λ c. search needs)
     returns)

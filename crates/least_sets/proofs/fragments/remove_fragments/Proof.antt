@@ -9,88 +9,59 @@ use borrow.Author.Needs.{needs}
 use Rattle.least_sets.proofs.fragments.remove_fragments.Statement.{statement}
 use Rattle.least_sets.proofs.fragments.remove_fragments.Tie as tie
 
-blank-cells-requires : tie.Need-blank-cells-requires
-blank-cells-requires c κs = search needs
-
-all-kept-requires : tie.Need-all-kept-requires
-all-kept-requires c κs = search needs
-
-all-kept-requires-2 : tie.Need-all-kept-requires-2
-all-kept-requires-2 c κs = search needs
-
-slice-aggregate-fill-matrix : tie.Need-slice-aggregate-fill-matrix
-slice-aggregate-fill-matrix c = search needs
-
-fill-matrix-requires : tie.Need-fill-matrix-requires
-fill-matrix-requires c κs = search needs
-
-slice-aggregate-phase-fragments : tie.Need-slice-aggregate-phase-fragments
-slice-aggregate-phase-fragments c = search needs
-
-sub-phase-fragments : tie.Need-sub-phase-fragments
-sub-phase-fragments c = search needs
-
-part-phase-fragments-start : tie.Need-part-phase-fragments-start
-part-phase-fragments-start c = search needs
-
 part-phase-fragments-end : tie.Need-part-phase-fragments-end
-part-phase-fragments-end c = let e = ap length (c .before .before .before .before .before .before .all-kept .ensures) ∙ length-replicate {A = ℕ} 128 1 in let h = sized-n (c .before .before .before .before .before .before .before .before .before .before .before .pre .0) in omega arith
-
-sub-phase-fragments-2 : tie.Need-sub-phase-fragments-2
-sub-phase-fragments-2 c = search needs
-
-part-keep-start : tie.Need-part-keep-start
-part-keep-start c = search needs
+part-phase-fragments-end c =
+    let all-kept = c .before .before .before .before .before .before .all-kept in
+    let start = c .before .before .before .before .before .before .before .before .before .before .before in
+    let e = ap length (all-kept .ensures) ∙ length-replicate {A = ℕ} 128 1 in let h = sized-n (start .pre .0) in omega arith
 
 part-keep-end : tie.Need-part-keep-end
-part-keep-end c = let e = ap length (c .before .before .before .before .before .before .before .all-kept2 .ensures) ∙ length-replicate {A = ℕ} 128 1 in let h = sized-m (c .before .before .before .before .before .before .before .before .before .before .before .before .before .pre .0) in omega arith
+part-keep-end c =
+    let all-kept2 = c .before .before .before .before .before .before .before .all-kept2 in
+    let start = c .before .before .before .before .before .before .before .before .before .before .before .before .before in
+    let e = ap length (all-kept2 .ensures) ∙ length-replicate {A = ℕ} 128 1 in let h = sized-m (start .pre .0) in omega arith
 
 phase-fragments-requires : tie.Need-phase-fragments-requires
 phase-fragments-requires c κs =
-    let a = c .before .before .before .before .before .before .before .before .before .before .before .before .before .before .before .args in
-    let p = c .before .before .before .before .before .before .before .before .before .before .before .before .before .before .before .pre in (
+    let fill-matrix = c .before .before .before .before .before .before .before .fill-matrix in
+    let all-kept2 = c .before .before .before .before .before .before .before .before .before .all-kept2 in
+    let all-kept = c .before .before .before .before .before .before .before .before .before .before .all-kept in
+    let start = c .before .before .before .before .before .before .before .before .before .before .before .before .before .before .before in
+    let a = start .args in
+    let p = start .pre in (
       p .0,
       (
         p .1 .0,
         (
-          c .before .before .before .before .before .before .before .fill-matrix .ensures,
+          fill-matrix .ensures,
           (
-            all-kept-part (a .n) _ (sized-n (p .0)) (c .before .before .before .before .before .before .before .before .before .before .all-kept .ensures),
+            all-kept-part (a .n) _ (sized-n (p .0)) (all-kept .ensures),
             (
               p .1 .1 .0,
-              (ap length (all-kept-part (a .m) _ (sized-m (p .0)) (c .before .before .before .before .before .before .before .before .before .all-kept2 .ensures)) ∙ all-length (a .m), p .1 .1 .1),
+              (ap length (all-kept-part (a .m) _ (sized-m (p .0)) (all-kept2 .ensures)) ∙ all-length (a .m), p .1 .1 .1),
             ),
           ),
         ),
       ),
     )
 
-same-length : tie.Need-same-length
-same-length c = search needs
-
-same-length-2 : tie.Need-same-length-2
-same-length-2 c = search needs
-
-returns : tie.Need-returns
-returns c = search needs
-
 pub remove-fragments-spec : {M : Type 1} → statement M
 remove-fragments-spec =
     tie.close
     (tie.spec
-    blank-cells-requires
-    all-kept-requires
-    all-kept-requires-2
-    slice-aggregate-fill-matrix
-    fill-matrix-requires
-    slice-aggregate-phase-fragments
-    sub-phase-fragments
-    part-phase-fragments-start
+    (λ c κs. search needs)
+    (λ c κs. search needs)
+    (λ c κs. search needs)
+    (λ c. search needs)
+    (λ c κs. search needs)
+    (λ c. search needs)
+    (λ c. search needs)
+    (λ c. search needs)
     part-phase-fragments-end
-    sub-phase-fragments-2
-    part-keep-start
+    (λ c. search needs)
+    (λ c. search needs)
     part-keep-end
     phase-fragments-requires
-    same-length
-    same-length-2
-    returns)
+    (λ c. search needs)
+    (λ c. search needs)
+    (λ c. search needs))

@@ -7,35 +7,25 @@ use borrow.Author.Needs.{needs}
 use Rattle.least_sets.proofs.stages.correction_fault.Statement.{statement}
 use Rattle.least_sets.proofs.stages.correction_fault.Tie as tie
 
-lent-fault-requires : tie.Need-lent-fault-requires
-lent-fault-requires c κs = search needs
-
-enum-known-lent : tie.Need-enum-known-lent
-enum-known-lent c = search needs
-
-enum-told : tie.Need-enum-told
-enum-told c = search needs
-
 returns : tie.Need-returns
 returns c = sym (correction-length _ _ _ _ _ _ (sym (c .before .before .before .lent-fault .ensures) ∙ ap outcomeOf (c .before .enum-told .given .1)) (c .if1 .taken))
-
-records-fault-requires : tie.Need-records-fault-requires
-records-fault-requires c κs = search needs
 
 returns-2 : tie.Need-returns-2
 returns-2 c = sym (correction-lent _ _ _ _ _ _ _ (sym (c .before .before .before .lent-fault .ensures) ∙ ap outcomeOf (c .before .lent .given .1)))
 
 returns-3 : tie.Need-returns-3
-returns-3 c = c .records-fault .ensures ∙ sym (correction-records _ _ _ _ _ _ (sym (c .before .before .before .before .lent-fault .ensures) ∙ ap outcomeOf (c .before .before .enum-told .given .1)) (c .before .if1 .left))
+returns-3 c =
+    let lent-fault = c .before .before .before .before .lent-fault in
+    c .records-fault .ensures ∙ sym (correction-records _ _ _ _ _ _ (sym (lent-fault .ensures) ∙ ap outcomeOf (c .before .before .enum-told .given .1)) (c .before .if1 .left))
 
 pub correction-fault-spec : {M : Type 1} → statement M
 correction-fault-spec =
     tie.close
     (tie.spec
-    lent-fault-requires
-    enum-known-lent
-    enum-told
+    (λ c κs. search needs)
+    (λ c. search needs)
+    (λ c. search needs)
     returns
-    records-fault-requires
+    (λ c κs. search needs)
     returns-2
     returns-3)

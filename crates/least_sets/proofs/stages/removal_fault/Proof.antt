@@ -7,18 +7,6 @@ use borrow.Author.Needs.{needs}
 use Rattle.least_sets.proofs.stages.removal_fault.Statement.{statement}
 use Rattle.least_sets.proofs.stages.removal_fault.Tie as tie
 
-lent-fault-requires : tie.Need-lent-fault-requires
-lent-fault-requires c κs = search needs
-
-enum-known-lent : tie.Need-enum-known-lent
-enum-known-lent c = search needs
-
-enum-told : tie.Need-enum-told
-enum-told c = search needs
-
-records-fault-requires : tie.Need-records-fault-requires
-records-fault-requires c κs = search needs
-
 returns : tie.Need-returns
 returns c = sym (removal-lent _ _ _ _ _ _ (sym (c .before .before .before .lent-fault .ensures) ∙ ap outcomeOf (c .before .lent .given .1)))
 
@@ -29,9 +17,9 @@ pub removal-fault-spec : {M : Type 1} → statement M
 removal-fault-spec =
     tie.close
     (tie.spec
-    lent-fault-requires
-    enum-known-lent
-    enum-told
-    records-fault-requires
+    (λ c κs. search needs)
+    (λ c. search needs)
+    (λ c. search needs)
+    (λ c κs. search needs)
     returns
     returns-2)

@@ -6,14 +6,8 @@ use Rattle.records.specs.Record.{isCall}
 use Rattle.matrix.proofs.cells.call_at.Statement.{statement}
 use Rattle.matrix.proofs.cells.call_at.Tie as tie
 
-cell-at-requires : tie.Need-cell-at-requires
-cell-at-requires c κs = search needs
-
-is-call-requires : tie.Need-is-call-requires
-is-call-requires c κs = search needs
-
 returns : tie.Need-returns
 returns c = c .is-call .ensures ∙ ap isCall (c .before .cell-at .ensures)
 
 pub call-at-spec : {M : Type 1} → statement M
-call-at-spec = tie.close (tie.spec cell-at-requires is-call-requires returns)
+call-at-spec = tie.close (tie.spec (λ c κs. search needs) (λ c κs. search needs) returns)

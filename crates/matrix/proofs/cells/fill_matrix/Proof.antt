@@ -24,39 +24,18 @@ abbrev μ-loop : tie.MeasureT-loop
 loop-holds : tie.Need-loop-holds Inv-loop μ-loop
 loop-holds c = filled-none 16384 _ _ (c .before .before .pre)
 
-mul-from : tie.Need-mul-from Inv-loop μ-loop
-mul-from c = search needs
-
-record-at-requires : tie.Need-record-at-requires Inv-loop μ-loop
-record-at-requires c κs = search needs
-
-add-fill-row : tie.Need-add-fill-row Inv-loop μ-loop
-add-fill-row c = search needs
-
-sub-fill-row : tie.Need-sub-fill-row Inv-loop μ-loop
-sub-fill-row c = search needs
-
-part-fill-row-start : tie.Need-part-fill-row-start Inv-loop μ-loop
-part-fill-row-start c = search needs
-
 part-fill-row-end : tie.Need-part-fill-row-end Inv-loop μ-loop
 part-fill-row-end c = let e = c .before .before .loop .inv .sized in omega arith
 
-fill-row-requires : tie.Need-fill-row-requires Inv-loop μ-loop
-fill-row-requires c κs = search needs
-
-add-i : tie.Need-add-i Inv-loop μ-loop
-add-i c = search needs
-
-loop-less : tie.Need-loop-less Inv-loop μ-loop
-loop-less c = search needs
-
 loop-again : tie.Need-loop-again Inv-loop μ-loop
 loop-again c =
+    let record-at = c .before .before .before .before .record-at in
+    let loop = c .before .before .before .before .before .before .loop in
+    let start = c .before .before .before .before .before .before .before .before .before in
     let w = c .before .before .fill-row in
-    let r = c .before .before .before .before .record-at in
-    let l = c .before .before .before .before .before .before .loop in
-    let a = c .before .before .before .before .before .before .before .before .before .args in
+    let r = record-at in
+    let l = loop in
+    let a = start .args in
     let s = l .inv .sized in
     let from = 128 * l .i in
     let e : from + 128 ≡ 128 * (l .i + 1) = omega arith in
@@ -79,15 +58,15 @@ fill-matrix-spec =
     Inv-loop
     μ-loop
     loop-holds
-    mul-from
-    record-at-requires
-    add-fill-row
-    sub-fill-row
-    part-fill-row-start
+    (λ c. search needs)
+    (λ c κs. search needs)
+    (λ c. search needs)
+    (λ c. search needs)
+    (λ c. search needs)
     part-fill-row-end
-    fill-row-requires
-    add-i
-    loop-less
+    (λ c κs. search needs)
+    (λ c. search needs)
+    (λ c. search needs)
     loop-again
     same-length
     returns)

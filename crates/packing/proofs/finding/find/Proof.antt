@@ -8,17 +8,12 @@ use Rattle.conflicts.specs.Services.{findLeaves}
 use Rattle.packing.proofs.finding.find.Statement.{statement}
 use Rattle.packing.proofs.finding.find.Tie as tie
 
-position-of-requires : tie.Need-position-of-requires
-position-of-requires c κs = search needs
-
-record-at-requires : tie.Need-record-at-requires
-record-at-requires c κs = search needs
-
 returns : tie.Need-returns
 unfolding findLeaves
 returns c =
-    let table = c .before .before .before .args .table in
+    let start = c .before .before .before in
+    let table = start .args .table in
     subst (λ (i : ℕ). Part table (partStart (table .now) i) (partLength (table .now) i) (c .record-at .result)) (c .before .position-of .ensures) (c .record-at .ensures)
 
 pub find-spec : {M : Type 1} → statement M
-find-spec = tie.close (tie.spec position-of-requires record-at-requires returns)
+find-spec = tie.close (tie.spec (λ c κs. search needs) (λ c κs. search needs) returns)

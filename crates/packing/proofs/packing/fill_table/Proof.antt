@@ -27,52 +27,31 @@ row-in c =
     omega arith
 
 loop-holds : tie.Need-loop-holds Inv-loop μ-loop
-loop-holds c = (laid-none _ _ _ _ (c .before .before .before .pre .1 .1), sym (zero-mul _))
+loop-holds c =
+    let start = c .before .before .before in
+    (laid-none _ _ _ _ (start .pre .1 .1), sym (zero-mul _))
 
 mul-to : tie.Need-mul-to Inv-loop μ-loop
-mul-to c = let h = pack-m (c .before .before .before .before .before .pre .0) in omega arith
-
-mul-write-record : tie.Need-mul-write-record Inv-loop μ-loop
-mul-write-record c = search needs
-
-shared-slice-read-write-record : tie.Need-shared-slice-read-write-record Inv-loop μ-loop
-shared-slice-read-write-record c = search needs
+mul-to c =
+    let start = c .before .before .before .before .before in
+    let h = pack-m (start .pre .0) in omega arith
 
 add-write-record : tie.Need-add-write-record Inv-loop μ-loop
 add-write-record c = let r = row-in c in omega arith
-
-sub-write-record : tie.Need-sub-write-record Inv-loop μ-loop
-sub-write-record c = search needs
-
-part-write-record-start : tie.Need-part-write-record-start Inv-loop μ-loop
-part-write-record-start c = search needs
 
 part-write-record-end : tie.Need-part-write-record-end Inv-loop μ-loop
 part-write-record-end c = row-in c
 
 add-write-record-2 : tie.Need-add-write-record-2 Inv-loop μ-loop
-add-write-record-2 c = let h = pack-m (c .before .before .before .before .before .before .before .pre .0) in omega arith
-
-sub-write-record-2 : tie.Need-sub-write-record-2 Inv-loop μ-loop
-sub-write-record-2 c = search needs
-
-part-write-record-start-2 : tie.Need-part-write-record-start-2 Inv-loop μ-loop
-part-write-record-start-2 c = search needs
+add-write-record-2 c =
+    let start = c .before .before .before .before .before .before .before in
+    let h = pack-m (start .pre .0) in omega arith
 
 part-write-record-end-2 : tie.Need-part-write-record-end-2 Inv-loop μ-loop
 part-write-record-end-2 c = let s = c .before .before .before .loop .inv .0 .sized in omega arith
 
-write-record-requires : tie.Need-write-record-requires Inv-loop μ-loop
-write-record-requires c κs = search needs
-
 add-first : tie.Need-add-first Inv-loop μ-loop
 add-first c = let r = row-in (c .before .before .before .before .before) in omega arith
-
-add-i : tie.Need-add-i Inv-loop μ-loop
-add-i c = search needs
-
-loop-less : tie.Need-loop-less Inv-loop μ-loop
-loop-less c = search needs
 
 loop-again : tie.Need-loop-again Inv-loop μ-loop
 loop-again c =
@@ -93,10 +72,14 @@ loop-again c =
     )
 
 same-length : tie.Need-same-length Inv-loop μ-loop
-same-length c = c .before .loop .inv .0 .sized ∙ sym (c .before .before .before .before .before .pre .1 .1)
+same-length c =
+    let start = c .before .before .before .before .before in
+    c .before .loop .inv .0 .sized ∙ sym (start .pre .1 .1)
 
 returns : tie.Need-returns Inv-loop μ-loop
-returns c = laid-all _ _ _ _ (c .before .before .before .before .before .pre .1 .1) (c .before .loop .i) (c .before .loop .table) (c .before .loop .inv .0) (omega arith)
+returns c =
+    let start = c .before .before .before .before .before in
+    laid-all _ _ _ _ (start .pre .1 .1) (c .before .loop .i) (c .before .loop .table) (c .before .loop .inv .0) (omega arith)
 
 pub fill-table-spec : {M : Type 1} → statement M
 fill-table-spec =
@@ -106,20 +89,20 @@ fill-table-spec =
     μ-loop
     loop-holds
     mul-to
-    mul-write-record
-    shared-slice-read-write-record
+    (λ c. search needs)
+    (λ c. search needs)
     add-write-record
-    sub-write-record
-    part-write-record-start
+    (λ c. search needs)
+    (λ c. search needs)
     part-write-record-end
     add-write-record-2
-    sub-write-record-2
-    part-write-record-start-2
+    (λ c. search needs)
+    (λ c. search needs)
     part-write-record-end-2
-    write-record-requires
+    (λ c κs. search needs)
     add-first
-    add-i
-    loop-less
+    (λ c. search needs)
+    (λ c. search needs)
     loop-again
     same-length
     returns)

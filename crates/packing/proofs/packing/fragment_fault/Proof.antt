@@ -17,46 +17,43 @@ row-in : (c : tie.After-shared-slice-known2) → c .before .before .args .i * c 
 row-in c = pack-row (c .before .before .pre .0) (c .before .before .args .i) (c .before .before .pre .1)
 
 mul-from : tie.Need-mul-from
-mul-from c = record { fits = product-fits (pack-n (c .before .before .pre .0)) (let h = pack-m (c .before .before .pre .0) in omega arith) }
+mul-from c =
+    let pre = c .before .before .pre in
+    record { fits = product-fits (pack-n (pre .0)) (let h = pack-m (pre .0) in omega arith) }
 
 add-row : tie.Need-add-row
 add-row c = let r = row-in c in omega arith
 
-sub-row : tie.Need-sub-row
-sub-row c = search needs
-
-part-row-start : tie.Need-part-row-start
-part-row-start c = search needs
-
 part-row-end : tie.Need-part-row-end
 part-row-end c = row-in c
-
-any-unknown-requires : tie.Need-any-unknown-requires
-any-unknown-requires c κs = search needs
 
 returns : tie.Need-returns
 returns c = sym (tested-fragment _ _ _ refl (row-in (c .before .before .before)) _ _ (c .before .any-unknown .ensures) refl refl refl ∙ rule-broken _ _ _ (c .if1 .taken))
 
-calls-span-requires : tie.Need-calls-span-requires
-calls-span-requires c κs = search needs
-
 returns-2 : tie.Need-returns-2
 returns-2 c = sym (tested-fragment _ _ _ refl (row-in (c .before .before .before .before .before)) _ _ (c .before .before .before .any-unknown .ensures) (c .before .calls-span .ensures) refl refl ∙ rule-kept _ _ _ (c .before .before .if1 .left) ∙ rule-broken _ _ _ (<?-true _ _ (c .if2 .taken)))
 
-is-gapped-requires : tie.Need-is-gapped-requires
-is-gapped-requires c κs = search needs
-
 returns-3 : tie.Need-returns-3
-returns-3 c = sym (tested-fragment _ _ _ refl (row-in (c .before .before .before .before .before .before .before)) _ _ (c .before .before .before .before .before .any-unknown .ensures) (c .before .before .before .calls-span .ensures) (c .before .is-gapped .ensures) refl ∙ rule-kept _ _ _ (c .before .before .before .before .if1 .left) ∙ rule-kept _ _ _ (<?-false _ _ (c .before .before .if2 .left)) ∙ rule-broken _ _ _ (c .if3 .taken))
-
-tag-before-requires : tie.Need-tag-before-requires
-tag-before-requires c κs = search needs
+returns-3 c =
+    let if1 = c .before .before .before .before .if1 in
+    let any-unknown = c .before .before .before .before .before .any-unknown in
+    sym (tested-fragment _ _ _ refl (row-in (c .before .before .before .before .before .before .before)) _ _ (any-unknown .ensures) (c .before .before .before .calls-span .ensures) (c .before .is-gapped .ensures) refl ∙ rule-kept _ _ _ (if1 .left) ∙ rule-kept _ _ _ (<?-false _ _ (c .before .before .if2 .left)) ∙ rule-broken _ _ _ (c .if3 .taken))
 
 returns-4 : tie.Need-returns-4
-returns-4 c = sym (tested-fragment _ _ _ refl (row-in (c .before .before .before .before .before .before .before .before .before)) _ _ (c .before .before .before .before .before .before .before .any-unknown .ensures) (c .before .before .before .before .before .calls-span .ensures) (c .before .before .before .is-gapped .ensures) (c .before .tag-before .ensures) ∙ rule-kept _ _ _ (c .before .before .before .before .before .before .if1 .left) ∙ rule-kept _ _ _ (<?-false _ _ (c .before .before .before .before .if2 .left)) ∙ rule-kept _ _ _ (c .before .before .if3 .left) ∙ rule-broken _ _ _ (c .if4 .taken))
+returns-4 c =
+    let if2 = c .before .before .before .before .if2 in
+    let calls-span = c .before .before .before .before .before .calls-span in
+    let if1 = c .before .before .before .before .before .before .if1 in
+    let any-unknown = c .before .before .before .before .before .before .before .any-unknown in
+    sym (tested-fragment _ _ _ refl (row-in (c .before .before .before .before .before .before .before .before .before)) _ _ (any-unknown .ensures) (calls-span .ensures) (c .before .before .before .is-gapped .ensures) (c .before .tag-before .ensures) ∙ rule-kept _ _ _ (if1 .left) ∙ rule-kept _ _ _ (<?-false _ _ (if2 .left)) ∙ rule-kept _ _ _ (c .before .before .if3 .left) ∙ rule-broken _ _ _ (c .if4 .taken))
 
 returns-5 : tie.Need-returns-5
-returns-5 c = sym (tested-fragment _ _ _ refl (row-in (c .before .before .before .before .before .before .before .before .before)) _ _ (c .before .before .before .before .before .before .before .any-unknown .ensures) (c .before .before .before .before .before .calls-span .ensures) (c .before .before .before .is-gapped .ensures) (c .before .tag-before .ensures) ∙ rule-kept _ _ _ (c .before .before .before .before .before .before .if1 .left) ∙ rule-kept _ _ _ (<?-false _ _ (c .before .before .before .before .if2 .left)) ∙ rule-kept _ _ _ (c .before .before .if3 .left) ∙ rule-kept _ _ _ (c .if4 .left) ∙ decide-none _)
+returns-5 c =
+    let if2 = c .before .before .before .before .if2 in
+    let calls-span = c .before .before .before .before .before .calls-span in
+    let if1 = c .before .before .before .before .before .before .if1 in
+    let any-unknown = c .before .before .before .before .before .before .before .any-unknown in
+    sym (tested-fragment _ _ _ refl (row-in (c .before .before .before .before .before .before .before .before .before)) _ _ (any-unknown .ensures) (calls-span .ensures) (c .before .before .before .is-gapped .ensures) (c .before .tag-before .ensures) ∙ rule-kept _ _ _ (if1 .left) ∙ rule-kept _ _ _ (<?-false _ _ (if2 .left)) ∙ rule-kept _ _ _ (c .before .before .if3 .left) ∙ rule-kept _ _ _ (c .if4 .left) ∙ decide-none _)
 
 pub fragment-fault-spec : {M : Type 1} → statement M
 fragment-fault-spec =
@@ -64,15 +61,15 @@ fragment-fault-spec =
     (tie.spec
     mul-from
     add-row
-    sub-row
-    part-row-start
+    (λ c. search needs)
+    (λ c. search needs)
     part-row-end
-    any-unknown-requires
+    (λ c κs. search needs)
     returns
-    calls-span-requires
+    (λ c κs. search needs)
     returns-2
-    is-gapped-requires
+    (λ c κs. search needs)
     returns-3
-    tag-before-requires
+    (λ c κs. search needs)
     returns-4
     returns-5)

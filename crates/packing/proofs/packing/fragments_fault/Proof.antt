@@ -24,28 +24,20 @@ unfolding fragmentsRules
 loop-holds c = (refl, search needs, rows-begin _ _ _)
 
 fragment-fault-requires : tie.Need-fragment-fault-requires Inv-loop μ-loop
-fragment-fault-requires c κs = (c .before .before .before .before .pre, search needs)
-
-enum-known-fault : tie.Need-enum-known-fault Inv-loop μ-loop
-enum-known-fault c = search needs
+fragment-fault-requires c κs =
+    let start = c .before .before .before .before in
+    (start .pre, search needs)
 
 returns : tie.Need-returns Inv-loop μ-loop
 returns c =
-    let lp = c .before .before .before .before .before .loop in
+    let loop = c .before .before .before .before .before .loop in
+    let lp = loop in
     sym (lp .inv .2 ∙ row-broken _ _ (lp .i) _ 0 _ _ (omega arith) (sym (c .before .before .before .fragment-fault .ensures) ∙ ap outcomeOf (c .before .fault .given .1)))
-
-enum-told : tie.Need-enum-told Inv-loop μ-loop
-enum-told c = search needs
-
-add-i : tie.Need-add-i Inv-loop μ-loop
-add-i c = search needs
-
-loop-less : tie.Need-loop-less Inv-loop μ-loop
-loop-less c = search needs
 
 loop-again : tie.Need-loop-again Inv-loop μ-loop
 loop-again c =
-    let lp = c .before .before .before .before .loop in
+    let loop = c .before .before .before .before .loop in
+    let lp = loop in
     (lp .inv .0, search needs, lp .inv .2 ∙ row-kept _ _ (lp .i) _ 0 _ (omega arith) (sym (c .before .before .fragment-fault .ensures) ∙ ap outcomeOf (c .enum-told .given .1)))
 
 returns-2 : tie.Need-returns-2 Inv-loop μ-loop
@@ -59,10 +51,10 @@ fragments-fault-spec =
     μ-loop
     loop-holds
     fragment-fault-requires
-    enum-known-fault
+    (λ c. search needs)
     returns
-    enum-told
-    add-i
-    loop-less
+    (λ c. search needs)
+    (λ c. search needs)
+    (λ c. search needs)
     loop-again
     returns-2)

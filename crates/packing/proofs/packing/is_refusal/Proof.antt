@@ -5,12 +5,6 @@ use Rattle.packing.specs.Algorithm.Sizes.{refuses}
 use Rattle.packing.proofs.packing.is_refusal.Statement.{statement}
 use Rattle.packing.proofs.packing.is_refusal.Tie as tie
 
-enum-told : tie.Need-enum-told
-enum-told c = search needs
-
-enum-told-2 : tie.Need-enum-told-2
-enum-told-2 c = search needs
-
 returns : tie.Need-returns
 unfolding refuses
 returns c = rw (c .enum-told .given .1)
@@ -20,4 +14,4 @@ unfolding refuses
 returns-2 c = rw (c .enum-told2 .given .1)
 
 pub is-refusal-spec : {M : Type 1} → statement M
-is-refusal-spec = tie.close (tie.spec enum-told enum-told-2 returns returns-2)
+is-refusal-spec = tie.close (tie.spec (λ c. search needs) (λ c. search needs) returns returns-2)

@@ -14,9 +14,6 @@ returns : tie.Need-returns
 unfolding packSizeRules decide isnt
 returns c = rw (<?-true 128 _ (c .if1 .taken))
 
-is-product-requires : tie.Need-is-product-requires
-is-product-requires c κs = search needs
-
 returns-2 : tie.Need-returns-2
 unfolding packSizeRules decide isnt
 returns-2 c = rw (<?-false 128 _ (c .before .before .if1 .left), sym (c .before .is-product .ensures) ∙ not-true _ (c .if2 .taken))
@@ -31,4 +28,4 @@ returns-4 c = rw (<?-false 128 _ (c .before .before .before .if1 .left), sym (c 
 
 pub pack-size-fault-spec : {M : Type 1} → statement M
 pack-size-fault-spec =
-    tie.close (tie.spec returns is-product-requires returns-2 returns-3 returns-4)
+    tie.close (tie.spec returns (λ c κs. search needs) returns-2 returns-3 returns-4)

@@ -16,32 +16,18 @@ Inv-loop tags i sought h₀ h = (h ≤ i) × (sought ≡ getD tags i 0) × NoneB
 abbrev μ-loop : tie.MeasureT-loop
 μ-loop tags i sought h₀ h = i - h
 
-mul-sought : tie.Need-mul-sought Inv-loop μ-loop
-mul-sought c = search needs
-
-shared-slice-read-sought : tie.Need-shared-slice-read-sought Inv-loop μ-loop
-shared-slice-read-sought c = search needs
-
 loop-holds : tie.Need-loop-holds Inv-loop μ-loop
 loop-holds c = (search needs, refl, none-yet _)
 
-mul-if1 : tie.Need-mul-if1 Inv-loop μ-loop
-mul-if1 c = search needs
-
-shared-slice-read-if1 : tie.Need-shared-slice-read-if1 Inv-loop μ-loop
-shared-slice-read-if1 c = search needs
-
 returns : tie.Need-returns Inv-loop μ-loop
-returns c = sym (any-hit _ _ (c .before .before .before .loop .h) (omega arith) (==-true _ _ (c .if1 .taken ∙ c .before .before .before .loop .inv .1)))
-
-add-h : tie.Need-add-h Inv-loop μ-loop
-add-h c = search needs
-
-loop-less : tie.Need-loop-less Inv-loop μ-loop
-loop-less c = search needs
+returns c =
+    let loop = c .before .before .before .loop in
+    sym (any-hit _ _ (loop .h) (omega arith) (==-true _ _ (c .if1 .taken ∙ loop .inv .1)))
 
 loop-again : tie.Need-loop-again Inv-loop μ-loop
-loop-again c = (search needs, c .before .before .before .loop .inv .1, none-more _ _ (c .before .before .before .loop .inv .2) (==-false _ _ (λ e. c .if1 .left (e ∙ sym (c .before .before .before .loop .inv .1)))))
+loop-again c =
+    let loop = c .before .before .before .loop in
+    (search needs, loop .inv .1, none-more _ _ (loop .inv .2) (==-false _ _ (λ e. c .if1 .left (e ∙ sym (loop .inv .1)))))
 
 returns-2 : tie.Need-returns-2 Inv-loop μ-loop
 returns-2 c = sym (any-none _ _ (c .before .loop .h) (c .loop-test .left) (c .before .loop .inv .2))
@@ -52,13 +38,13 @@ tag-before-spec =
     (tie.spec
     Inv-loop
     μ-loop
-    mul-sought
-    shared-slice-read-sought
+    (λ c. search needs)
+    (λ c. search needs)
     loop-holds
-    mul-if1
-    shared-slice-read-if1
+    (λ c. search needs)
+    (λ c. search needs)
     returns
-    add-h
-    loop-less
+    (λ c. search needs)
+    (λ c. search needs)
     loop-again
     returns-2)

@@ -41,32 +41,16 @@ loop-holds : tie.Need-loop-holds Inv-loop μ-loop
 unfolding fragments
 loop-holds c = (refl, filled-none _ _ _ (c .before .before .pre), sym (zero-mul _))
 
-record-at-requires : tie.Need-record-at-requires Inv-loop μ-loop
-record-at-requires c κs = search needs
-
 add-fill-row : tie.Need-add-fill-row Inv-loop μ-loop
 add-fill-row c = let r = row-in c in let s = c .before .before .loop .inv .1 .sized in omega arith
-
-sub-fill-row : tie.Need-sub-fill-row Inv-loop μ-loop
-sub-fill-row c = search needs
-
-part-fill-row-start : tie.Need-part-fill-row-start Inv-loop μ-loop
-part-fill-row-start c = search needs
 
 part-fill-row-end : tie.Need-part-fill-row-end Inv-loop μ-loop
 part-fill-row-end c = let r = row-in c in let s = c .before .before .loop .inv .1 .sized in omega arith
 
-fill-row-requires : tie.Need-fill-row-requires Inv-loop μ-loop
-fill-row-requires c κs = search needs
-
 add-first : tie.Need-add-first Inv-loop μ-loop
-add-first c = let r = row-in (c .before .before .before .before) in let s = c .before .before .before .before .before .before .loop .inv .1 .sized in omega arith
-
-add-i : tie.Need-add-i Inv-loop μ-loop
-add-i c = search needs
-
-loop-less : tie.Need-loop-less Inv-loop μ-loop
-loop-less c = search needs
+add-first c =
+    let loop = c .before .before .before .before .before .before .loop in
+    let r = row-in (c .before .before .before .before) in let s = loop .inv .1 .sized in omega arith
 
 loop-again : tie.Need-loop-again Inv-loop μ-loop
 loop-again c =
@@ -87,12 +71,15 @@ loop-again c =
     )
 
 same-length : tie.Need-same-length Inv-loop μ-loop
-same-length c = c .before .loop .inv .1 .sized ∙ sym (c .before .before .before .before .pre)
+same-length c =
+    let start = c .before .before .before .before in
+    c .before .loop .inv .1 .sized ∙ sym (start .pre)
 
 returns : tie.Need-returns Inv-loop μ-loop
 returns c =
+    let start = c .before .before .before .before in
     let l = c .before .loop in
-    let a = c .before .before .before .before .args in
+    let a = start .args in
     let cells = unpackedCells (a .n) (a .table .now) in
     let e = l .inv .0 in
     let h : fragments (a .table .now) ≤ l .i = omega arith in
@@ -109,15 +96,15 @@ fill-cells-spec =
     Inv-loop
     μ-loop
     loop-holds
-    record-at-requires
+    (λ c κs. search needs)
     add-fill-row
-    sub-fill-row
-    part-fill-row-start
+    (λ c. search needs)
+    (λ c. search needs)
     part-fill-row-end
-    fill-row-requires
+    (λ c κs. search needs)
     add-first
-    add-i
-    loop-less
+    (λ c. search needs)
+    (λ c. search needs)
     loop-again
     same-length
     returns)

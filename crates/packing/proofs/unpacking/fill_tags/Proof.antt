@@ -18,32 +18,17 @@ abbrev μ-loop : tie.MeasureT-loop
 loop-holds : tie.Need-loop-holds Inv-loop μ-loop
 loop-holds c = filled-none _ _ _ (c .before .before .pre)
 
-record-at-requires : tie.Need-record-at-requires Inv-loop μ-loop
-record-at-requires c κs = search needs
-
-tag-requires : tie.Need-tag-requires Inv-loop μ-loop
-tag-requires c κs = search needs
-
-mul-tags : tie.Need-mul-tags Inv-loop μ-loop
-mul-tags c = search needs
-
-slice-write-tags : tie.Need-slice-write-tags Inv-loop μ-loop
-slice-write-tags c = search needs
-
-add-i : tie.Need-add-i Inv-loop μ-loop
-add-i c = search needs
-
-loop-less : tie.Need-loop-less Inv-loop μ-loop
-loop-less c = search needs
-
 loop-again : tie.Need-loop-again Inv-loop μ-loop
 loop-again c =
+    let start = c .before .before .before .before .before .before in
     let lp = c .before .before .before .loop in
-    let h : lp .i < fragments (c .before .before .before .before .before .before .args .table .now) = omega (arith, lp .inv .sized) in
+    let h : lp .i < fragments (start .args .table .now) = omega (arith, lp .inv .sized) in
     filled-more _ _ (lp .i) (lp .tags) _ (lp .inv) h (c .tag .ensures ∙ ap tagOf (part-record _ _ _ (c .before .record-at .ensures) h))
 
 same-length : tie.Need-same-length Inv-loop μ-loop
-same-length c = c .before .loop .inv .sized ∙ sym (c .before .before .before .before .pre)
+same-length c =
+    let start = c .before .before .before .before in
+    c .before .loop .inv .sized ∙ sym (start .pre)
 
 returns : tie.Need-returns Inv-loop μ-loop
 unfolding unpackedTags
@@ -56,12 +41,12 @@ fill-tags-spec =
     Inv-loop
     μ-loop
     loop-holds
-    record-at-requires
-    tag-requires
-    mul-tags
-    slice-write-tags
-    add-i
-    loop-less
+    (λ c κs. search needs)
+    (λ c κs. search needs)
+    (λ c. search needs)
+    (λ c. search needs)
+    (λ c. search needs)
+    (λ c. search needs)
     loop-again
     same-length
     returns)

@@ -21,62 +21,69 @@ abbrev μ-loop : tie.MeasureT-loop
 μ-loop letters counts₀ highs₀ lows₀ mask₀ counts highs lows mask = 256 - mask
 
 loop-holds : tie.Need-loop-holds Inv-loop μ-loop
-loop-holds c = (search needs, c .before .before .before .before .pre .1, sweep-none _ _ 0)
+loop-holds c =
+    let start = c .before .before .before .before in
+    (search needs, start .pre .1, sweep-none _ _ 0)
 
 get-requires : tie.Need-get-requires Inv-loop μ-loop
-get-requires c κs = inside-of (c .before .before .before .before .loop .inv .1) (c .before .before .before .loop-test .taken)
+get-requires c κs =
+    let loop = c .before .before .before .before .loop in
+    inside-of (loop .inv .1) (c .before .before .before .loop-test .taken)
 
 mask-cost-requires : tie.Need-mask-cost-requires Inv-loop μ-loop
-mask-cost-requires c κs = (c .before .before .before .before .before .before .before .before .before .before .pre .0, c .before .before .before .before .loop-test .taken)
-
-counted-requires : tie.Need-counted-requires Inv-loop μ-loop
-counted-requires c κs = search needs
+mask-cost-requires c κs =
+    let loop-test = c .before .before .before .before .loop-test in
+    let start = c .before .before .before .before .before .before .before .before .before .before in
+    (start .pre .0, loop-test .taken)
 
 plus-requires : tie.Need-plus-requires Inv-loop μ-loop
 plus-requires c κs =
+    let counted = c .before .before .before .counted in
+    let mask-cost = c .before .before .before .before .mask-cost in
+    let get = c .before .before .before .before .before .get in
+    let loop-test = c .before .before .before .before .before .before .before .before .before .loop-test in
+    let loop = c .before .before .before .before .before .before .before .before .before .before .loop in
     let s = c .before .before .before .before .before .before .before .before .before .before .before .before .before .before .before in
-    let l = c .before .before .before .before .before .before .before .before .before .before .loop in
-    charge-fits (c .before .before .before .counted .result) (c .before .before .before .before .before .get .result) (c .before .before .before .before .mask-cost .result) (search needs) (search needs) (search needs) (search needs) (c .before .before .before .counted .ensures) (c .before .before .before .before .mask-cost .ensures .1)
-    (c .before .before .before .before .before .get .ensures ∙ l .inv .2 .rest (l .mask) (λ lo hi. omega arith)) (s .pre .2 .room (l .mask) zero-le (c .before .before .before .before .before .before .before .before .before .loop-test .taken))
+    let l = loop in
+    charge-fits (counted .result) (get .result) (mask-cost .result) (search needs) (search needs) (search needs) (search needs) (counted .ensures) (mask-cost .ensures .1)
+    (get .ensures ∙ l .inv .2 .rest (l .mask) (λ lo hi. omega arith)) (s .pre .2 .room (l .mask) zero-le (loop-test .taken))
 
 put-requires : tie.Need-put-requires Inv-loop μ-loop
 put-requires c κs =
+    let counted = c .before .before .before .before .counted in
+    let mask-cost = c .before .before .before .before .before .mask-cost in
+    let get = c .before .before .before .before .before .before .get in
+    let loop-test = c .before .before .before .before .before .before .before .before .before .before .loop-test in
+    let loop = c .before .before .before .before .before .before .before .before .before .before .before .loop in
     let s = c .before .before .before .before .before .before .before .before .before .before .before .before .before .before .before .before in
-    let l = c .before .before .before .before .before .before .before .before .before .before .before .loop in
-    let lt = c .before .before .before .before .before .before .before .before .before .before .loop-test .taken in (
+    let l = loop in
+    let lt = loop-test .taken in (
       inside-of (l .inv .1) lt,
-      charge-count (c .plus .result) (c .before .before .before .before .before .mask-cost .result) (search needs) (search needs) (c .before .before .before .before .before .mask-cost .ensures .1)
-          (c .plus .ensures ∙ ap₂ _+_ (c .before .before .before .before .counted .ensures) (c .before .before .before .before .before .before .get .ensures ∙ l .inv .2 .rest (l .mask) (λ lo hi. omega arith))) (s .pre .2 .room (l .mask) zero-le lt),
+      charge-count (c .plus .result) (mask-cost .result) (search needs) (search needs) (mask-cost .ensures .1)
+          (c .plus .ensures ∙ ap₂ _+_ (counted .ensures) (get .ensures ∙ l .inv .2 .rest (l .mask) (λ lo hi. omega arith))) (s .pre .2 .room (l .mask) zero-le lt),
     )
-
-add-mask : tie.Need-add-mask Inv-loop μ-loop
-add-mask c = search needs
-
-loop-less : tie.Need-loop-less Inv-loop μ-loop
-loop-less c = search needs
 
 loop-again : tie.Need-loop-again Inv-loop μ-loop
 loop-again c =
-    let l = c .before .before .before .before .before .before .before .before .before .before .before .before .before .before .before .before .before .before .loop in (
-      let lt = c .before .before .before .before .before .before .before .before .before .before .before .before .before .before .before .before .before .loop-test .taken in omega arith,
-      patterns-put (c .before .before .before .before .before .before .put .ensures .0) (l .inv .1),
-      sweep-more zero-le (l .inv .2) (put-as (c .before .before .before .before .before .before .put .ensures .1)
-          (c .before .before .before .before .before .before .before .plus .ensures ∙ ap₂ _+_ (c .before .before .before .before .before .before .before .before .before .before .before .counted .ensures ∙ ap (λ (x : ℕ). x * top) (c .before .before .before .before .before .before .before .before .before .before .before .before .mask-cost .ensures .0)) (c .before .before .before .before .before .before .before .before .before .before .before .before .before .get .ensures ∙ l .inv .2 .rest (l .mask) (λ lo hi. omega arith)))),
+    let put = c .before .before .before .before .before .before .put in
+    let plus = c .before .before .before .before .before .before .before .plus in
+    let counted = c .before .before .before .before .before .before .before .before .before .before .before .counted in
+    let mask-cost = c .before .before .before .before .before .before .before .before .before .before .before .before .mask-cost in
+    let get = c .before .before .before .before .before .before .before .before .before .before .before .before .before .get in
+    let loop-test = c .before .before .before .before .before .before .before .before .before .before .before .before .before .before .before .before .before .loop-test in
+    let loop = c .before .before .before .before .before .before .before .before .before .before .before .before .before .before .before .before .before .before .loop in
+    let l = loop in (
+      let lt = loop-test .taken in omega arith,
+      patterns-put (put .ensures .0) (l .inv .1),
+      sweep-more zero-le (l .inv .2) (put-as (put .ensures .1)
+          (plus .ensures ∙ ap₂ _+_ (counted .ensures ∙ ap (λ (x : ℕ). x * top) (mask-cost .ensures .0)) (get .ensures ∙ l .inv .2 .rest (l .mask) (λ lo hi. omega arith)))),
     )
-
-same-length : tie.Need-same-length Inv-loop μ-loop
-same-length c = search needs
-
-same-length-2 : tie.Need-same-length-2 Inv-loop μ-loop
-same-length-2 c = search needs
-
-same-length-3 : tie.Need-same-length-3 Inv-loop μ-loop
-same-length-3 c = search needs
 
 returns : tie.Need-returns Inv-loop μ-loop
 returns c =
+    let start = c .before .before .before .before .before .before in
     let l = c .before .loop in
-    let a = c .before .before .before .before .before .before .args in
+    let a = start .args in
     let v = (at (a .counts .now) (a .highs .now) (a .lows .now)) in
     let le = l .inv .0 in
     let e : l .mask ≡ 256 = omega arith in
@@ -91,13 +98,13 @@ charge-spec =
     loop-holds
     get-requires
     mask-cost-requires
-    counted-requires
+    (λ c κs. search needs)
     plus-requires
     put-requires
-    add-mask
-    loop-less
+    (λ c. search needs)
+    (λ c. search needs)
     loop-again
-    same-length
-    same-length-2
-    same-length-3
+    (λ c. search needs)
+    (λ c. search needs)
+    (λ c. search needs)
     returns)

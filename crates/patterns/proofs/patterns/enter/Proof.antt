@@ -22,9 +22,6 @@ Inv-loop counts₀ highs₀ lows₀ f b out mask₀ counts highs lows mask =
 abbrev μ-loop : tie.MeasureT-loop
 μ-loop counts₀ highs₀ lows₀ f b out mask₀ counts highs lows mask = 256 - mask
 
-single-requires : tie.Need-single-requires Inv-loop μ-loop
-single-requires c κs = search needs
-
 loop-holds : tie.Need-loop-holds Inv-loop μ-loop
 loop-holds c =
     let s = c .before .before .before .before in
@@ -32,8 +29,9 @@ loop-holds c =
 
 entered-at-requires : tie.Need-entered-at-requires Inv-loop μ-loop
 entered-at-requires c κs =
+    let loop = c .before .before .before .before .loop in
     let s = c .before .before .before .before .before .before .before .before .before in
-    let l = c .before .before .before .before .loop in
+    let l = loop in
     let a = s .args in (
       l .inv .1,
       l .inv .2,
@@ -45,43 +43,35 @@ entered-at-requires c κs =
 
 put-requires : tie.Need-put-requires Inv-loop μ-loop
 put-requires c κs =
-    let l = c .before .before .before .before .before .before .before .before .loop in
+    let loop-test = c .before .before .before .before .before .before .before .loop-test in
+    let loop = c .before .before .before .before .before .before .before .before .loop in
+    let l = loop in
     let r = c .before .before .before .entered-at in
     let few = room-parts (r .result) (search needs) (search needs) refl (r .ensures .1) .0 in
-    (inside-of (l .inv .1) (c .before .before .before .before .before .before .before .loop-test .taken), omega arith)
-
-add-mask : tie.Need-add-mask Inv-loop μ-loop
-add-mask c = search needs
-
-loop-less : tie.Need-loop-less Inv-loop μ-loop
-loop-less c = search needs
+    (inside-of (l .inv .1) (loop-test .taken), omega arith)
 
 loop-again : tie.Need-loop-again Inv-loop μ-loop
 loop-again c =
+    let put = c .before .before .before .before .before .before .put in
+    let entered-at = c .before .before .before .before .before .before .before .before .before .before .entered-at in
+    let loop-test = c .before .before .before .before .before .before .before .before .before .before .before .before .before .before .loop-test in
+    let loop = c .before .before .before .before .before .before .before .before .before .before .before .before .before .before .before .loop in
     let s = c .before .before .before .before .before .before .before .before .before .before .before .before .before .before .before .before .before .before .before .before in
-    let l = c .before .before .before .before .before .before .before .before .before .before .before .before .before .before .before .loop in
-    let r = c .before .before .before .before .before .before .before .before .before .before .entered-at in
-    let p = c .before .before .before .before .before .before .put .ensures .1 in (
-      let lt = c .before .before .before .before .before .before .before .before .before .before .before .before .before .before .loop-test .taken in omega arith,
-      patterns-put (c .before .before .before .before .before .before .put .ensures .0) (l .inv .1),
+    let l = loop in
+    let r = entered-at in
+    let p = put .ensures .1 in (
+      let lt = loop-test .taken in omega arith,
+      patterns-put (put .ensures .0) (l .inv .1),
       l .inv .2,
       sweep-more zero-le (l .inv .3) (put-as p (r .ensures .0 ∙ entered-is (s .args .b) (s .args .f) (l .inv .3))),
       room-put p (l .inv .4) (r .ensures .1),
     )
 
-same-length : tie.Need-same-length Inv-loop μ-loop
-same-length c = search needs
-
-same-length-2 : tie.Need-same-length-2 Inv-loop μ-loop
-same-length-2 c = search needs
-
-same-length-3 : tie.Need-same-length-3 Inv-loop μ-loop
-same-length-3 c = search needs
-
 returns : tie.Need-returns Inv-loop μ-loop
 returns c =
+    let start = c .before .before .before .before .before .before in
     let l = c .before .loop in
-    let a = c .before .before .before .before .before .before .args in
+    let a = start .args in
     let v = at (a .counts .now) (a .highs .now) (a .lows .now) in
     let e : l .mask ≡ 256 = omega arith in
     subst (Sweep (entered 2 (a .b) (sideWeight (a .f)) v) v (at (l .counts) (l .highs) (l .lows)) 0) e (l .inv .3)
@@ -92,14 +82,14 @@ enter-spec =
     (tie.spec
     Inv-loop
     μ-loop
-    single-requires
+    (λ c κs. search needs)
     loop-holds
     entered-at-requires
     put-requires
-    add-mask
-    loop-less
+    (λ c. search needs)
+    (λ c. search needs)
     loop-again
-    same-length
-    same-length-2
-    same-length-3
+    (λ c. search needs)
+    (λ c. search needs)
+    (λ c. search needs)
     returns)

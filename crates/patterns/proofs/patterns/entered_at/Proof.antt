@@ -17,20 +17,13 @@ other-at c =
     let s = c .before .before .before .before in
     rw (shl (s .args .b) (s .pre .2)) (in-range (s .args .b) (s .args .mask) (s .pre .2) (s .pre .3) (c .if1 .taken))
 
-shr-if1 : tie.Need-shr-if1
-shr-if1 c = search needs
-
-get-requires : tie.Need-get-requires
-get-requires c κs = search needs
-
-shl-get : tie.Need-shl-get
-shl-get c = search needs
-
 add-get : tie.Need-add-get
 add-get c = omega (arith, other-at (c .before))
 
 get-requires-2 : tie.Need-get-requires-2
-get-requires-2 c κs = inside-of (c .before .before .before .before .before .pre .0) (other-at (c .before))
+get-requires-2 c κs =
+    let start = c .before .before .before .before .before in
+    inside-of (start .pre .0) (other-at (c .before))
 
 plus-requires : tie.Need-plus-requires
 plus-requires c κs =
@@ -38,29 +31,21 @@ plus-requires c κs =
     let a = s .args in
     enter-fits (a .out) (c .get2 .result) (a .f) (search needs) (search needs) (s .pre .1) (c .get2 .ensures) (s .pre .5 .room (a .mask + 1 * 2 ^ a .b % 2 ^ 64) (omega arith) (other-at (c .before .before)))
 
-lesser-requires : tie.Need-lesser-requires
-lesser-requires c κs = search needs
-
 returns : tie.Need-returns
 returns c =
+    let if1 = c .before .before .before .before .if1 in
     let s = c .before .before .before .before .before .before .before .before in
     let a = s .args in
     let v = (at (a .counts .now) (a .highs .now) (a .lows .now)) in
-    let e = c .before .before .before .before .if1 .taken in
+    let e = if1 .taken in
     let is = c .lesser .ensures ∙ ap₂ min (c .before .before .before .get .ensures) (c .before .plus .ensures ∙ ap₂ _+_ (alone-value (a .out) (a .f) (s .pre .1)) (c .before .before .get2 .ensures ∙ ap (λ (x : ℕ). v (a .mask + x)) (shl (a .b) (s .pre .2)))) in
     (is ∙ sym (entered-clear (a .b) (place (a .f)) v (a .mask) e), subst (PatternRoom 0) (sym is) (clear-room (a .b) (a .f) (a .mask) v (s .pre .2) (s .pre .3) e (s .pre .4) (s .pre .5)))
-
-shl-get-2 : tie.Need-shl-get-2
-shl-get-2 c = search needs
 
 sub-get : tie.Need-sub-get
 sub-get c =
     let s = c .before .before .before .before in
     let a = s .args in
     rw (shl (a .b) (s .pre .2)) (has-digit (a .b) (a .mask) (c .if1 .left))
-
-get-requires-3 : tie.Need-get-requires-3
-get-requires-3 c κs = search needs
 
 returns-2 : tie.Need-returns-2
 returns-2 c =
@@ -76,15 +61,15 @@ pub entered-at-spec : {M : Type 1} → statement M
 entered-at-spec =
     tie.close
     (tie.spec
-    shr-if1
-    get-requires
-    shl-get
+    (λ c. search needs)
+    (λ c κs. search needs)
+    (λ c. search needs)
     add-get
     get-requires-2
     plus-requires
-    lesser-requires
+    (λ c κs. search needs)
     returns
-    shl-get-2
+    (λ c. search needs)
     sub-get
-    get-requires-3
+    (λ c κs. search needs)
     returns-2)

@@ -6,12 +6,6 @@ use Rattle.below.proofs.TestLaws.{and-true, and-false}
 use Rattle.phasing.proofs.pairs.both_call.Statement.{statement}
 use Rattle.phasing.proofs.pairs.both_call.Tie as tie
 
-is-call-requires : tie.Need-is-call-requires
-is-call-requires c κs = search needs
-
-is-call-requires-2 : tie.Need-is-call-requires-2
-is-call-requires-2 c κs = search needs
-
 returns : tie.Need-returns
 returns c = c .is-call2 .ensures ∙ and-true _ (sym (c .before .before .is-call .ensures) ∙ c .before .if1 .taken)
 
@@ -19,4 +13,4 @@ returns-2 : tie.Need-returns-2
 returns-2 c = and-false _ (sym (c .before .is-call .ensures) ∙ c .if1 .left)
 
 pub both-call-spec : {M : Type 1} → statement M
-both-call-spec = tie.close (tie.spec is-call-requires is-call-requires-2 returns returns-2)
+both-call-spec = tie.close (tie.spec (λ c κs. search needs) (λ c κs. search needs) returns returns-2)

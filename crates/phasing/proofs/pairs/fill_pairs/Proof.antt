@@ -16,21 +16,20 @@ abbrev μ-loop : tie.MeasureT-loop
 μ-loop blocks n cells cols frags matrix₀ k₀ matrix k = 16384 - k
 
 loop-holds : tie.Need-loop-holds Inv-loop μ-loop
-loop-holds c = filled-none 16384 _ _ (c .before .before .before .before .pre .3)
+loop-holds c =
+    let start = c .before .before .before .before in
+    filled-none 16384 _ _ (start .pre .3)
 
 set-pair-requires : tie.Need-set-pair-requires Inv-loop μ-loop
 set-pair-requires c κs = let e = c .before .before .loop .inv .sized in search needs
 
-add-k : tie.Need-add-k Inv-loop μ-loop
-add-k c = search needs
-
-loop-less : tie.Need-loop-less Inv-loop μ-loop
-loop-less c = search needs
-
 loop-again : tie.Need-loop-again Inv-loop μ-loop
 loop-again c =
-    let a = c .before .before .before .before .before .before .before .before .before .before .args in
-    pair-more (a .blocks) (matrixGrid 0 (a .n) (a .cells .now)) (a .cols .now) (a .frags .now) (c .before .before .before .before .before .loop .inv) (c .before .before .before .before .loop-test .taken) (c .before .before .set-pair .ensures 0)
+    let loop-test = c .before .before .before .before .loop-test in
+    let loop = c .before .before .before .before .before .loop in
+    let start = c .before .before .before .before .before .before .before .before .before .before in
+    let a = start .args in
+    pair-more (a .blocks) (matrixGrid 0 (a .n) (a .cells .now)) (a .cols .now) (a .frags .now) (loop .inv) (loop-test .taken) (c .before .before .set-pair .ensures 0)
 
 same-length : tie.Need-same-length Inv-loop μ-loop
 same-length c = let e = c .before .loop .inv .sized in search needs
@@ -47,8 +46,8 @@ fill-pairs-spec =
     μ-loop
     loop-holds
     set-pair-requires
-    add-k
-    loop-less
+    (λ c. search needs)
+    (λ c. search needs)
     loop-again
     same-length
     returns)

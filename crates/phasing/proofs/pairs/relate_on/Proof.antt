@@ -7,9 +7,6 @@ use Rattle.below.proofs.TestLaws.{and-true, and-false}
 use Rattle.phasing.proofs.pairs.relate_on.Statement.{statement}
 use Rattle.phasing.proofs.pairs.relate_on.Tie as tie
 
-codes-relate-requires : tie.Need-codes-relate-requires
-codes-relate-requires c κs = search needs
-
 returns : tie.Need-returns
 returns c = c .codes-relate .ensures ∙ and-true _ (<?-true 0 _ (c .before .if1 .taken))
 
@@ -17,4 +14,4 @@ returns-2 : tie.Need-returns-2
 returns-2 c = and-false _ (<?-false 0 _ (c .if1 .left))
 
 pub relate-on-spec : {M : Type 1} → statement M
-relate-on-spec = tie.close (tie.spec codes-relate-requires returns returns-2)
+relate-on-spec = tie.close (tie.spec (λ c κs. search needs) returns returns-2)

@@ -18,46 +18,28 @@ abbrev μ-loop : tie.MeasureT-loop
 loop-holds : tie.Need-loop-holds Inv-loop μ-loop
 loop-holds c = (search needs, none-yet _)
 
-shared-slice-read-relate-on : tie.Need-shared-slice-read-relate-on Inv-loop μ-loop
-shared-slice-read-relate-on c = search needs
-
-add-relate-on : tie.Need-add-relate-on Inv-loop μ-loop
-add-relate-on c = search needs
-
-shared-slice-read-relate-on-2 : tie.Need-shared-slice-read-relate-on-2 Inv-loop μ-loop
-shared-slice-read-relate-on-2 c = search needs
-
-add-relate-on-2 : tie.Need-add-relate-on-2 Inv-loop μ-loop
-add-relate-on-2 c = search needs
-
-shared-slice-read-relate-on-3 : tie.Need-shared-slice-read-relate-on-3 Inv-loop μ-loop
-shared-slice-read-relate-on-3 c = search needs
-
-relate-on-requires : tie.Need-relate-on-requires Inv-loop μ-loop
-relate-on-requires c κs = search needs
-
 returns : tie.Need-returns Inv-loop μ-loop
 unfolding marked
 returns c =
-    let a = c .before .before .before .before .before .before .before .before .before .args in
-    sym (any-hit (a .n) (columnRelates (a .blocks) (a .cells .now) (a .cols .now) (a .p) (a .q)) (c .before .before .before .before .before .before .loop .c) (c .before .before .before .before .before .loop-test .taken) (sym (c .before .relate-on .ensures) ∙ c .if1 .taken))
-
-add-c : tie.Need-add-c Inv-loop μ-loop
-add-c c = search needs
-
-loop-less : tie.Need-loop-less Inv-loop μ-loop
-loop-less c = search needs
+    let loop-test = c .before .before .before .before .before .loop-test in
+    let loop = c .before .before .before .before .before .before .loop in
+    let start = c .before .before .before .before .before .before .before .before .before in
+    let a = start .args in
+    sym (any-hit (a .n) (columnRelates (a .blocks) (a .cells .now) (a .cols .now) (a .p) (a .q)) (loop .c) (loop-test .taken) (sym (c .before .relate-on .ensures) ∙ c .if1 .taken))
 
 loop-again : tie.Need-loop-again Inv-loop μ-loop
 unfolding marked
 loop-again c =
-    let a = c .before .before .before .before .before .before .before .before .before .args in
-    let lp = c .before .before .before .before .before .before .loop in
+    let loop = c .before .before .before .before .before .before .loop in
+    let start = c .before .before .before .before .before .before .before .before .before in
+    let a = start .args in
+    let lp = loop in
     (search needs, none-more (lp .c) (columnRelates (a .blocks) (a .cells .now) (a .cols .now) (a .p) (a .q)) (lp .inv .1) (sym (c .before .relate-on .ensures) ∙ c .if1 .left))
 
 returns-2 : tie.Need-returns-2 Inv-loop μ-loop
 returns-2 c =
-    let a = c .before .before .before .before .args in
+    let start = c .before .before .before .before in
+    let a = start .args in
     sym (any-none (a .n) (columnRelates (a .blocks) (a .cells .now) (a .cols .now) (a .p) (a .q)) (c .before .loop .c) (c .loop-test .left) (c .before .loop .inv .1))
 
 pub rows-relate-spec : {M : Type 1} → statement M
@@ -67,14 +49,14 @@ rows-relate-spec =
     Inv-loop
     μ-loop
     loop-holds
-    shared-slice-read-relate-on
-    add-relate-on
-    shared-slice-read-relate-on-2
-    add-relate-on-2
-    shared-slice-read-relate-on-3
-    relate-on-requires
+    (λ c. search needs)
+    (λ c. search needs)
+    (λ c. search needs)
+    (λ c. search needs)
+    (λ c. search needs)
+    (λ c κs. search needs)
     returns
-    add-c
-    loop-less
+    (λ c. search needs)
+    (λ c. search needs)
     loop-again
     returns-2)

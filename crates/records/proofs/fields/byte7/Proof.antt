@@ -4,12 +4,9 @@ use borrow.Author.Needs.{needs}
 use Rattle.records.proofs.fields.byte7.Statement.{statement}
 use Rattle.records.proofs.fields.byte7.Tie as tie
 
-byte-requires : tie.Need-byte-requires
-byte-requires c κs = search needs
-
 returns : tie.Need-returns
 unfolding byte7Of
 returns c = omega arith
 
 pub byte7-spec : {M : Type 1} → statement M
-byte7-spec = tie.close (tie.spec byte-requires returns)
+byte7-spec = tie.close (tie.spec (λ c κs. search needs) returns)

@@ -17,23 +17,10 @@ abbrev μ-loop : tie.MeasureT-loop
 loop-holds : tie.Need-loop-holds Inv-loop μ-loop
 loop-holds c = filled-none 24 _ _ refl
 
-add-byte : tie.Need-add-byte Inv-loop μ-loop
-add-byte c = search needs
-
-byte-requires : tie.Need-byte-requires Inv-loop μ-loop
-byte-requires c κs = search needs
-
-array-write-copy : tie.Need-array-write-copy Inv-loop μ-loop
-array-write-copy c = search needs
-
-add-k : tie.Need-add-k Inv-loop μ-loop
-add-k c = search needs
-
-loop-less : tie.Need-loop-less Inv-loop μ-loop
-loop-less c = search needs
-
 loop-again : tie.Need-loop-again Inv-loop μ-loop
-loop-again c = filled-more 24 _ (c .before .before .loop .k) (c .before .before .loop .copy) (c .byte .result) (c .before .before .loop .inv) (omega arith) (c .byte .ensures)
+loop-again c =
+    let loop = c .before .before .loop in
+    filled-more 24 _ (loop .k) (loop .copy) (c .byte .result) (loop .inv) (omega arith) (c .byte .ensures)
 
 returns : tie.Need-returns Inv-loop μ-loop
 unfolding cellBytesOf
@@ -46,10 +33,10 @@ cell-bytes-spec =
     Inv-loop
     μ-loop
     loop-holds
-    add-byte
-    byte-requires
-    array-write-copy
-    add-k
-    loop-less
+    (λ c. search needs)
+    (λ c κs. search needs)
+    (λ c. search needs)
+    (λ c. search needs)
+    (λ c. search needs)
     loop-again
     returns)

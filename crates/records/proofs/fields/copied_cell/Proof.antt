@@ -8,21 +8,11 @@ use Rattle.records.proofs.fields.copied_cell.Tie as tie
 returns : tie.Need-returns
 returns c = sym (copied-past (c .before .args .copy .now) (c .before .args .i) (c .if1 .taken))
 
-mul-low : tie.Need-mul-low
-mul-low c = search needs
-
-element-copy-out-result : tie.Need-element-copy-out-result
-element-copy-out-result c = search needs
-
-cast-result : tie.Need-cast-result
-cast-result c = search needs
-
-shr-result : tie.Need-shr-result
-shr-result c = search needs
-
 returns-2 : tie.Need-returns-2
-returns-2 c = copied-shifted (c .before .before .args .copy .now) (c .before .before .args .i) (omega arith)
+returns-2 c =
+    let args = c .before .before .args in
+    copied-shifted (args .copy .now) (args .i) (omega arith)
 
 pub copied-cell-spec : {M : Type 1} → statement M
 copied-cell-spec =
-    tie.close (tie.spec returns mul-low element-copy-out-result cast-result shr-result returns-2)
+    tie.close (tie.spec returns (λ c. search needs) (λ c. search needs) (λ c. search needs) (λ c. search needs) returns-2)

@@ -4,12 +4,9 @@ use borrow.Author.Needs.{needs}
 use Rattle.records.proofs.fields.span.Statement.{statement}
 use Rattle.records.proofs.fields.span.Tie as tie
 
-byte-requires : tie.Need-byte-requires
-byte-requires c κs = search needs
-
 returns : tie.Need-returns
 unfolding spanOf
 returns c = omega arith
 
 pub span-spec : {M : Type 1} → statement M
-span-spec = tie.close (tie.spec byte-requires returns)
+span-spec = tie.close (tie.spec (λ c κs. search needs) returns)

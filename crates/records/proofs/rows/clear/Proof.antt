@@ -16,12 +16,6 @@ abbrev μ-loop : tie.MeasureT-loop
 loop-holds : tie.Need-loop-holds Inv-loop μ-loop
 loop-holds c = filled-none _ _ _ refl
 
-slice-write-row : tie.Need-slice-write-row Inv-loop μ-loop
-slice-write-row c = search needs
-
-add-c : tie.Need-add-c Inv-loop μ-loop
-add-c c = search needs
-
 loop-less : tie.Need-loop-less Inv-loop μ-loop
 loop-less c = let e = c .before .loop .inv .sized in search needs
 
@@ -41,8 +35,8 @@ clear-spec =
     Inv-loop
     μ-loop
     loop-holds
-    slice-write-row
-    add-c
+    (λ c. search needs)
+    (λ c. search needs)
     loop-less
     loop-again
     same-length

@@ -5,39 +5,6 @@ use Rattle.records.proofs.FieldLaws.{row-filled}
 use Rattle.records.proofs.rows.fill_row.Statement.{statement}
 use Rattle.records.proofs.rows.fill_row.Tie as tie
 
-start-requires : tie.Need-start-requires
-start-requires c κs = search needs
-
-cast-s : tie.Need-cast-s
-cast-s c = search needs
-
-span-requires : tie.Need-span-requires
-span-requires c κs = search needs
-
-cast-k : tie.Need-cast-k
-cast-k c = search needs
-
-cell-bytes-requires : tie.Need-cell-bytes-requires
-cell-bytes-requires c κs = search needs
-
-clear-requires : tie.Need-clear-requires
-clear-requires c κs = search needs
-
-smaller-requires : tie.Need-smaller-requires
-smaller-requires c κs = search needs
-
-add-smaller : tie.Need-add-smaller
-add-smaller c = search needs
-
-smaller-requires-2 : tie.Need-smaller-requires-2
-smaller-requires-2 c κs = search needs
-
-write-cells-requires : tie.Need-write-cells-requires
-write-cells-requires c κs = search needs
-
-same-length : tie.Need-same-length
-same-length c = search needs
-
 returns : tie.Need-returns
 returns c =
     let written = c .before .before in
@@ -58,15 +25,15 @@ pub fill-row-spec : {M : Type 1} → statement M
 fill-row-spec =
     tie.close
     (tie.spec
-    start-requires
-    cast-s
-    span-requires
-    cast-k
-    cell-bytes-requires
-    clear-requires
-    smaller-requires
-    add-smaller
-    smaller-requires-2
-    write-cells-requires
-    same-length
+    (λ c κs. search needs)
+    (λ c. search needs)
+    (λ c κs. search needs)
+    (λ c. search needs)
+    (λ c κs. search needs)
+    (λ c κs. search needs)
+    (λ c κs. search needs)
+    (λ c. search needs)
+    (λ c κs. search needs)
+    (λ c κs. search needs)
+    (λ c. search needs)
     returns)

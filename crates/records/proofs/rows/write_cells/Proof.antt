@@ -18,20 +18,13 @@ loop-holds c = written-none _ _ _ _
 sub-copied-cell : tie.Need-sub-copied-cell Inv-loop μ-loop
 sub-copied-cell c = c .before .loop .inv .begun
 
-copied-cell-requires : tie.Need-copied-cell-requires Inv-loop μ-loop
-copied-cell-requires c κs = search needs
-
 slice-write-row : tie.Need-slice-write-row Inv-loop μ-loop
 slice-write-row c = let e = c .before .before .loop .inv .as-long in search needs
 
-add-c : tie.Need-add-c Inv-loop μ-loop
-add-c c = search needs
-
-loop-less : tie.Need-loop-less Inv-loop μ-loop
-loop-less c = search needs
-
 loop-again : tie.Need-loop-again Inv-loop μ-loop
-loop-again c = written-more _ _ _ _ (c .before .before .loop .c) (c .before .before .loop .row) _ (c .before .before .loop .inv) (omega arith) (omega arith) (c .copied-cell .ensures)
+loop-again c =
+    let loop = c .before .before .loop in
+    written-more _ _ _ _ (loop .c) (loop .row) _ (loop .inv) (omega arith) (omega arith) (c .copied-cell .ensures)
 
 same-length : tie.Need-same-length Inv-loop μ-loop
 same-length c = c .before .loop .inv .as-long
@@ -47,10 +40,10 @@ write-cells-spec =
     μ-loop
     loop-holds
     sub-copied-cell
-    copied-cell-requires
+    (λ c κs. search needs)
     slice-write-row
-    add-c
-    loop-less
+    (λ c. search needs)
+    (λ c. search needs)
     loop-again
     same-length
     returns)

@@ -8,25 +8,14 @@ use borrow.Author.Needs.{needs}
 use Rattle.records.proofs.rules.any_code.Statement.{statement}
 use Rattle.records.proofs.rules.any_code.Tie as tie
 
-span-requires : tie.Need-span-requires
-span-requires c κs = search needs
-
-cast-end : tie.Need-cast-end
-cast-end c = search needs
-
-cell-bytes-requires : tie.Need-cell-bytes-requires
-cell-bytes-requires c κs = search needs
-
-any-copied-code-requires : tie.Need-any-copied-code-requires
-any-copied-code-requires c κs = search needs
-
 returns : tie.Need-returns
 returns c =
+    let start = c .before .before .before .before .before in
     let end = c .before .before .before .span in
-    let a = c .before .before .before .before .before .args in
+    let a = start .args in
     c .any-copied-code .ensures
     ∙ any-ext (end .result) _ _ (λ k l. ap (λ (x : ℕ). x == a .code) (copied-cell (a .part .now) _ k (c .before .before .cell-bytes .ensures)))
     ∙ ap (λ (n : ℕ). anyBelow n (λ k. cellOf (a .part .now) k == a .code)) (end .ensures)
 
 pub any-code-spec : {M : Type 1} → statement M
-any-code-spec = tie.close (tie.spec span-requires cast-end cell-bytes-requires any-copied-code-requires returns)
+any-code-spec = tie.close (tie.spec (λ c κs. search needs) (λ c. search needs) (λ c κs. search needs) (λ c κs. search needs) returns)

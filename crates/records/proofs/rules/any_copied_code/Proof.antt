@@ -17,17 +17,8 @@ abbrev μ-loop : tie.MeasureT-loop
 loop-holds : tie.Need-loop-holds Inv-loop μ-loop
 loop-holds c = (search needs, none-yet _)
 
-copied-cell-requires : tie.Need-copied-cell-requires Inv-loop μ-loop
-copied-cell-requires c κs = search needs
-
 returns : tie.Need-returns Inv-loop μ-loop
 returns c = sym (any-hit _ _ (c .before .before .before .loop .k) (omega arith) (==-true _ _ (sym (c .before .copied-cell .ensures) ∙ c .if1 .taken)))
-
-add-k : tie.Need-add-k Inv-loop μ-loop
-add-k c = search needs
-
-loop-less : tie.Need-loop-less Inv-loop μ-loop
-loop-less c = search needs
 
 loop-again : tie.Need-loop-again Inv-loop μ-loop
 loop-again c = (search needs, none-more _ _ (c .before .before .before .loop .inv .1) (==-false _ _ (λ e. c .if1 .left (c .before .copied-cell .ensures ∙ e))))
@@ -42,9 +33,9 @@ any-copied-code-spec =
     Inv-loop
     μ-loop
     loop-holds
-    copied-cell-requires
+    (λ c κs. search needs)
     returns
-    add-k
-    loop-less
+    (λ c. search needs)
+    (λ c. search needs)
     loop-again
     returns-2)

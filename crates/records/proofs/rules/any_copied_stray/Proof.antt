@@ -17,22 +17,17 @@ abbrev μ-loop : tie.MeasureT-loop
 loop-holds : tie.Need-loop-holds Inv-loop μ-loop
 loop-holds c = (search needs, none-before _ _)
 
-copied-cell-requires : tie.Need-copied-cell-requires Inv-loop μ-loop
-copied-cell-requires c κs = search needs
-
 returns : tie.Need-returns Inv-loop μ-loop
 unfolding _and_ isnt
-returns c = sym (any-hit 96 _ (c .before .before .before .loop .k) (omega arith) (rw (≤?-true _ _ (c .before .before .before .loop .inv .0), ← c .before .copied-cell .ensures, ==-false _ _ (c .if1 .taken))))
-
-add-k : tie.Need-add-k Inv-loop μ-loop
-add-k c = search needs
-
-loop-less : tie.Need-loop-less Inv-loop μ-loop
-loop-less c = search needs
+returns c =
+    let loop = c .before .before .before .loop in
+    sym (any-hit 96 _ (loop .k) (omega arith) (rw (≤?-true _ _ (loop .inv .0), ← c .before .copied-cell .ensures, ==-false _ _ (c .if1 .taken))))
 
 loop-again : tie.Need-loop-again Inv-loop μ-loop
 unfolding _and_ isnt
-loop-again c = (search needs, none-more _ _ (c .before .before .before .loop .inv .1) (rw (≤?-true _ _ (c .before .before .before .loop .inv .0), ← c .before .copied-cell .ensures, ==-true _ _ (c .if1 .left))))
+loop-again c =
+    let loop = c .before .before .before .loop in
+    (search needs, none-more _ _ (loop .inv .1) (rw (≤?-true _ _ (loop .inv .0), ← c .before .copied-cell .ensures, ==-true _ _ (c .if1 .left))))
 
 returns-2 : tie.Need-returns-2 Inv-loop μ-loop
 returns-2 c = sym (any-none 96 _ (c .before .loop .k) (omega arith) (c .before .loop .inv .1))
@@ -44,9 +39,9 @@ any-copied-stray-spec =
     Inv-loop
     μ-loop
     loop-holds
-    copied-cell-requires
+    (λ c κs. search needs)
     returns
-    add-k
-    loop-less
+    (λ c. search needs)
+    (λ c. search needs)
     loop-again
     returns-2)

@@ -23,23 +23,15 @@ tag-read c = c .tag .ensures ∙ ap tagOf (part-record _ (c .before .before .bef
 loop-holds : tie.Need-loop-holds Inv-loop μ-loop
 loop-holds c = (search needs, none-yet _)
 
-record-at-requires : tie.Need-record-at-requires Inv-loop μ-loop
-record-at-requires c κs = search needs
-
-tag-requires : tie.Need-tag-requires Inv-loop μ-loop
-tag-requires c κs = search needs
-
 returns : tie.Need-returns Inv-loop μ-loop
-returns c = sym (any-hit _ _ (c .before .before .before .before .loop .h) (omega arith) (==-true _ _ (sym (tag-read (c .before)) ∙ c .if1 .taken)))
-
-add-h : tie.Need-add-h Inv-loop μ-loop
-add-h c = search needs
-
-loop-less : tie.Need-loop-less Inv-loop μ-loop
-loop-less c = search needs
+returns c =
+    let loop = c .before .before .before .before .loop in
+    sym (any-hit _ _ (loop .h) (omega arith) (==-true _ _ (sym (tag-read (c .before)) ∙ c .if1 .taken)))
 
 loop-again : tie.Need-loop-again Inv-loop μ-loop
-loop-again c = (search needs, none-more _ _ (c .before .before .before .before .loop .inv .1) (==-false _ _ (λ e. c .if1 .left (tag-read (c .before) ∙ e))))
+loop-again c =
+    let loop = c .before .before .before .before .loop in
+    (search needs, none-more _ _ (loop .inv .1) (==-false _ _ (λ e. c .if1 .left (tag-read (c .before) ∙ e))))
 
 returns-2 : tie.Need-returns-2 Inv-loop μ-loop
 returns-2 c = sym (any-none _ _ (c .before .loop .h) (c .loop-test .left) (c .before .loop .inv .1))
@@ -51,10 +43,10 @@ any-tag-spec =
     Inv-loop
     μ-loop
     loop-holds
-    record-at-requires
-    tag-requires
+    (λ c κs. search needs)
+    (λ c κs. search needs)
     returns
-    add-h
-    loop-less
+    (λ c. search needs)
+    (λ c. search needs)
     loop-again
     returns-2)

@@ -9,21 +9,9 @@ use borrow.Author.Needs.{needs}
 use Rattle.records.proofs.rules.open_end.Statement.{statement}
 use Rattle.records.proofs.rules.open_end.Tie as tie
 
-span-requires : tie.Need-span-requires
-span-requires c κs = search needs
-
-cast-k : tie.Need-cast-k
-cast-k c = search needs
-
 returns : tie.Need-returns
 unfolding openEnd _and_
 returns c = rw (← c .before .span .ensures, <?-false 0 (c .before .span .result) (omega arith))
-
-cell-bytes-requires : tie.Need-cell-bytes-requires
-cell-bytes-requires c κs = search needs
-
-copied-cell-requires : tie.Need-copied-cell-requires
-copied-cell-requires c κs = search needs
 
 returns-2 : tie.Need-returns-2
 unfolding openEnd _and_ _or_
@@ -32,12 +20,6 @@ returns-2 c =
     let spanned = copied .before .before in
     let first = c .before .copied-cell .ensures ∙ copied-cell (spanned .before .before .args .part .now) _ 0 (copied .cell-bytes .ensures) in
     rw (← spanned .span .ensures, ← first, <?-true 0 (spanned .span .result) (omega arith), ==-true _ _ (c .if2 .taken))
-
-sub-copied-cell : tie.Need-sub-copied-cell
-sub-copied-cell c = search needs
-
-copied-cell-requires-2 : tie.Need-copied-cell-requires-2
-copied-cell-requires-2 c κs = search needs
 
 returns-3 : tie.Need-returns-3
 unfolding openEnd _and_ _or_ _==_
@@ -53,12 +35,12 @@ pub open-end-spec : {M : Type 1} → statement M
 open-end-spec =
     tie.close
     (tie.spec
-    span-requires
-    cast-k
+    (λ c κs. search needs)
+    (λ c. search needs)
     returns
-    cell-bytes-requires
-    copied-cell-requires
+    (λ c κs. search needs)
+    (λ c κs. search needs)
     returns-2
-    sub-copied-cell
-    copied-cell-requires-2
+    (λ c. search needs)
+    (λ c κs. search needs)
     returns-3)

@@ -15,9 +15,6 @@ use borrow.Author.Needs.{needs}
 use Rattle.records.proofs.rules.record_fault.Statement.{statement}
 use Rattle.records.proofs.rules.record_fault.Tie as tie
 
-record-at-requires : tie.Need-record-at-requires
-record-at-requires c κs = search needs
-
 -- the part is record i
 part-read : (c : tie.After-record-at) → now (c .record-at .result) ≡ recordAt (c .before .before .args .table .now) (c .before .before .args .i)
 part-read c = part-record _ (c .before .before .args .i) _ (c .record-at .ensures) (c .before .before .pre)
@@ -72,46 +69,25 @@ past-9 : (c : tie.Else6) → decide (recordRules (c .before .before .before .bef
 unfolding recordRules
 past-9 c = past-8 (c .before .before .before) ∙ rule-kept _ _ _ (sym (twice-read (c .before)) ∙ c .if6 .left)
 
-out-of-frame-requires : tie.Need-out-of-frame-requires
-out-of-frame-requires c κs = search needs
-
 returns : tie.Need-returns
 unfolding recordRules
 returns c = sym (rule-broken _ _ _ (sym (frame-read (c .before)) ∙ c .if1 .taken))
-
-stray-bits-requires : tie.Need-stray-bits-requires
-stray-bits-requires c κs = search needs
 
 returns-2 : tie.Need-returns-2
 unfolding recordRules
 returns-2 c = sym (past-4 (c .before .before) ∙ rule-broken _ _ _ (sym (stray-read (c .before)) ∙ c .if2 .taken))
 
-any-code-requires : tie.Need-any-code-requires
-any-code-requires c κs = search needs
-
 returns-3 : tie.Need-returns-3
 unfolding recordRules
 returns-3 c = sym (past-5 (c .before .before) ∙ rule-broken _ _ _ (sym (unknown-read (c .before)) ∙ c .if3 .taken))
-
-open-end-requires : tie.Need-open-end-requires
-open-end-requires c κs = search needs
 
 returns-4 : tie.Need-returns-4
 unfolding recordRules
 returns-4 c = sym (past-6 (c .before .before) ∙ rule-broken _ _ _ (sym (open-read (c .before)) ∙ c .if4 .taken))
 
-any-code-requires-2 : tie.Need-any-code-requires-2
-any-code-requires-2 c κs = search needs
-
 returns-5 : tie.Need-returns-5
 unfolding recordRules
 returns-5 c = sym (past-7 (c .before .before) ∙ rule-broken _ _ _ (sym (gapped-read (c .before)) ∙ c .if5 .taken))
-
-tag-requires : tie.Need-tag-requires
-tag-requires c κs = search needs
-
-any-tag-requires : tie.Need-any-tag-requires
-any-tag-requires c κs = search needs
 
 returns-6 : tie.Need-returns-6
 unfolding recordRules
@@ -125,18 +101,18 @@ pub record-fault-spec : {M : Type 1} → statement M
 record-fault-spec =
     tie.close
     (tie.spec
-    record-at-requires
-    out-of-frame-requires
+    (λ c κs. search needs)
+    (λ c κs. search needs)
     returns
-    stray-bits-requires
+    (λ c κs. search needs)
     returns-2
-    any-code-requires
+    (λ c κs. search needs)
     returns-3
-    open-end-requires
+    (λ c κs. search needs)
     returns-4
-    any-code-requires-2
+    (λ c κs. search needs)
     returns-5
-    tag-requires
-    any-tag-requires
+    (λ c κs. search needs)
+    (λ c κs. search needs)
     returns-6
     returns-7)

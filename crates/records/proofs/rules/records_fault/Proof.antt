@@ -19,29 +19,16 @@ loop-holds : tie.Need-loop-holds Inv-loop μ-loop
 unfolding fragments tableRules
 loop-holds c = (refl, search needs, rows-begin _ _ _)
 
-record-fault-requires : tie.Need-record-fault-requires Inv-loop μ-loop
-record-fault-requires c κs = search needs
-
-enum-known-fault : tie.Need-enum-known-fault Inv-loop μ-loop
-enum-known-fault c = search needs
-
 returns : tie.Need-returns Inv-loop μ-loop
 returns c =
-    let lp = c .before .before .before .before .before .loop in
+    let loop = c .before .before .before .before .before .loop in
+    let lp = loop in
     sym (lp .inv .2 ∙ row-broken _ _ (lp .i) _ 0 _ _ (omega arith) (sym (c .before .before .before .record-fault .ensures) ∙ ap outcomeOf (c .before .fault .given .1)))
-
-enum-told : tie.Need-enum-told Inv-loop μ-loop
-enum-told c = search needs
-
-add-i : tie.Need-add-i Inv-loop μ-loop
-add-i c = search needs
-
-loop-less : tie.Need-loop-less Inv-loop μ-loop
-loop-less c = search needs
 
 loop-again : tie.Need-loop-again Inv-loop μ-loop
 loop-again c =
-    let lp = c .before .before .before .before .loop in
+    let loop = c .before .before .before .before .loop in
+    let lp = loop in
     (lp .inv .0, search needs, lp .inv .2 ∙ row-kept _ _ (lp .i) _ 0 _ (omega arith) (sym (c .before .before .record-fault .ensures) ∙ ap outcomeOf (c .enum-told .given .1)))
 
 returns-2 : tie.Need-returns-2 Inv-loop μ-loop
@@ -55,11 +42,11 @@ records-fault-spec =
     Inv-loop
     μ-loop
     loop-holds
-    record-fault-requires
-    enum-known-fault
+    (λ c κs. search needs)
+    (λ c. search needs)
     returns
-    enum-told
-    add-i
-    loop-less
+    (λ c. search needs)
+    (λ c. search needs)
+    (λ c. search needs)
     loop-again
     returns-2)

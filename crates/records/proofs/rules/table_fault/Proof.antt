@@ -6,18 +6,6 @@ use borrow.Author.Needs.{needs}
 use Rattle.records.proofs.rules.table_fault.Statement.{statement}
 use Rattle.records.proofs.rules.table_fault.Tie as tie
 
-size-fault-requires : tie.Need-size-fault-requires
-size-fault-requires c κs = search needs
-
-enum-known-sizes : tie.Need-enum-known-sizes
-enum-known-sizes c = search needs
-
-enum-told : tie.Need-enum-told
-enum-told c = search needs
-
-records-fault-requires : tie.Need-records-fault-requires
-records-fault-requires c κs = search needs
-
 returns : tie.Need-returns
 unfolding tableVerdict
 returns c = sym (decide-append _ _ _ ∙ decide-refused _ _ _ _ _ (sym (c .before .before .before .size-fault .ensures) ∙ ap outcomeOf (c .before .sizes .given .1)))
@@ -30,9 +18,9 @@ pub table-fault-spec : {M : Type 1} → statement M
 table-fault-spec =
     tie.close
     (tie.spec
-    size-fault-requires
-    enum-known-sizes
-    enum-told
-    records-fault-requires
+    (λ c κs. search needs)
+    (λ c. search needs)
+    (λ c. search needs)
+    (λ c κs. search needs)
     returns
     returns-2)

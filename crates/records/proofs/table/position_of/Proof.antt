@@ -24,24 +24,16 @@ loop-holds : tie.Need-loop-holds Inv-loop μ-loop
 unfolding fragments
 loop-holds c = (refl, search needs, none-yet _)
 
-record-at-requires : tie.Need-record-at-requires Inv-loop μ-loop
-record-at-requires c κs = search needs
-
-tag-requires : tie.Need-tag-requires Inv-loop μ-loop
-tag-requires c κs = search needs
-
 returns : tie.Need-returns Inv-loop μ-loop
 unfolding position
-returns c = sym (first-hit _ _ (c .before .before .before .before .loop .i) (omega arith) (c .before .before .before .before .loop .inv .2) (==-true _ _ (sym (tag-read (c .before)) ∙ c .if1 .taken)))
-
-add-i : tie.Need-add-i Inv-loop μ-loop
-add-i c = search needs
-
-loop-less : tie.Need-loop-less Inv-loop μ-loop
-loop-less c = search needs
+returns c =
+    let loop = c .before .before .before .before .loop in
+    sym (first-hit _ _ (loop .i) (omega arith) (loop .inv .2) (==-true _ _ (sym (tag-read (c .before)) ∙ c .if1 .taken)))
 
 loop-again : tie.Need-loop-again Inv-loop μ-loop
-loop-again c = (c .before .before .before .before .loop .inv .0, search needs, none-more _ _ (c .before .before .before .before .loop .inv .2) (==-false _ _ (λ e. c .if1 .left (tag-read (c .before) ∙ e))))
+loop-again c =
+    let loop = c .before .before .before .before .loop in
+    (loop .inv .0, search needs, none-more _ _ (loop .inv .2) (==-false _ _ (λ e. c .if1 .left (tag-read (c .before) ∙ e))))
 
 returns-2 : tie.Need-returns-2 Inv-loop μ-loop
 unfolding position
@@ -54,10 +46,10 @@ position-of-spec =
     Inv-loop
     μ-loop
     loop-holds
-    record-at-requires
-    tag-requires
+    (λ c κs. search needs)
+    (λ c κs. search needs)
     returns
-    add-i
-    loop-less
+    (λ c. search needs)
+    (λ c. search needs)
     loop-again
     returns-2)

@@ -23,30 +23,20 @@ abbrev μ-loop : tie.MeasureT-loop
 loop-holds : tie.Need-loop-holds Inv-loop μ-loop
 loop-holds c = (search needs, count-none _)
 
-call-at-requires : tie.Need-call-at-requires Inv-loop μ-loop
-call-at-requires c κs = search needs
-
-one-if-requires : tie.Need-one-if-requires Inv-loop μ-loop
-one-if-requires c κs = search needs
-
 add-count : tie.Need-add-count Inv-loop μ-loop
 add-count c =
+    let start = c .before .before .before .before .before in
     let l = c .before .before .before .loop in
-    let a = c .before .before .before .before .before .args in
+    let a = start .args in
     let low = count-bound (l .i) (λ (j : ℕ). isCall (getD (a .cells .now) (j * 128 + a .c) 0)) in
     let one = c .one-if .ensures .1 in
     omega arith
 
-add-i : tie.Need-add-i Inv-loop μ-loop
-add-i c = search needs
-
-loop-less : tie.Need-loop-less Inv-loop μ-loop
-loop-less c = search needs
-
 loop-again : tie.Need-loop-again Inv-loop μ-loop
 loop-again c =
+    let start = c .before .before .before .before .before in
     let l = c .before .before .before .loop in
-    let a = c .before .before .before .before .before .args in
+    let a = start .args in
     (search needs, ap₂ _+_ (l .inv .1) (c .one-if .ensures .0 ∙ ap bit (c .before .call-at .ensures)) ∙ sym (count-next (l .i) (λ (j : ℕ). isCall (getD (a .cells .now) (j * 128 + a .c) 0))))
 
 returns : tie.Need-returns Inv-loop μ-loop
@@ -64,10 +54,10 @@ calls-in-spec =
     Inv-loop
     μ-loop
     loop-holds
-    call-at-requires
-    one-if-requires
+    (λ c κs. search needs)
+    (λ c κs. search needs)
     add-count
-    add-i
-    loop-less
+    (λ c. search needs)
+    (λ c. search needs)
     loop-again
     returns)

@@ -20,26 +20,19 @@ abbrev μ-loop : tie.MeasureT-loop
 loop-holds : tie.Need-loop-holds Inv-loop μ-loop
 loop-holds c = (search needs, none-yet _)
 
-calls-in-requires : tie.Need-calls-in-requires Inv-loop μ-loop
-calls-in-requires c κs = search needs
-
 returns : tie.Need-returns Inv-loop μ-loop
 unfolding firstDeep matrixGrid
 returns c =
+    let start = c .before .before .before .before .before in
     let l = c .before .before .before .loop in
-    let a = c .before .before .before .before .before .args in
+    let a = start .args in
     sym (first-hit (a .n) (λ (k : ℕ). 8 <? depth (matrixGrid (a .m) (a .n) (a .cells .now)) k) (l .c) (c .before .before .loop-test .taken) (l .inv .1) (<?-true 8 _ (subst (λ (x : ℕ). 8 < x) (c .before .calls-in .ensures (a .n)) (c .if1 .taken))))
-
-add-c : tie.Need-add-c Inv-loop μ-loop
-add-c c = search needs
-
-loop-less : tie.Need-loop-less Inv-loop μ-loop
-loop-less c = search needs
 
 loop-again : tie.Need-loop-again Inv-loop μ-loop
 loop-again c =
+    let start = c .before .before .before .before .before in
     let l = c .before .before .before .loop in
-    let a = c .before .before .before .before .before .args in
+    let a = start .args in
     (search needs, none-more (l .c) (λ (k : ℕ). 8 <? depth (matrixGrid (a .m) (a .n) (a .cells .now)) k) (l .inv .1) (<?-false 8 _ (subst (λ (x : ℕ). x ≤ 8) (c .before .calls-in .ensures (a .n)) (c .if1 .left))))
 
 returns-2 : tie.Need-returns-2 Inv-loop μ-loop
@@ -53,9 +46,9 @@ first-deep-spec =
     Inv-loop
     μ-loop
     loop-holds
-    calls-in-requires
+    (λ c κs. search needs)
     returns
-    add-c
-    loop-less
+    (λ c. search needs)
+    (λ c. search needs)
     loop-again
     returns-2)

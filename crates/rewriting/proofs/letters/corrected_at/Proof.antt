@@ -19,25 +19,22 @@ returns-2 c =
     let s = c .before .before .before .before .before .before in
     past-columns _ _ _ _ _ _ _ (s .pre .0 .1) (s .pre .1 .0) (s .pre .1 .1) (c .if2 .taken)
 
-shared-slice-read-corrected-code : tie.Need-shared-slice-read-corrected-code
-shared-slice-read-corrected-code c = search needs
-
-shared-slice-read-corrected-code-2 : tie.Need-shared-slice-read-corrected-code-2
-shared-slice-read-corrected-code-2 c = search needs
-
 shared-slice-read-corrected-code-3 : tie.Need-shared-slice-read-corrected-code-3
-shared-slice-read-corrected-code-3 c = let e = ap length (c .before .before .before .before .before .before .before .before .before .pre .1 .0) ∙ length-tab 128 _ in omega arith
+shared-slice-read-corrected-code-3 c =
+    let start = c .before .before .before .before .before .before .before .before .before in
+    let e = ap length (start .pre .1 .0) ∙ length-tab 128 _ in omega arith
 
 shared-slice-read-corrected-code-4 : tie.Need-shared-slice-read-corrected-code-4
-shared-slice-read-corrected-code-4 c = let e = ap length (c .before .before .before .before .before .before .before .before .before .before .pre .1 .1) ∙ length-tab 128 _ in omega arith
-
-corrected-code-requires : tie.Need-corrected-code-requires
-corrected-code-requires c κs = search needs
+shared-slice-read-corrected-code-4 c =
+    let start = c .before .before .before .before .before .before .before .before .before .before in
+    let e = ap length (start .pre .1 .1) ∙ length-tab 128 _ in omega arith
 
 returns-3 : tie.Need-returns-3
 returns-3 c =
+    let if2 = c .before .before .before .before .before .if2 in
+    let if1 = c .before .before .before .before .before .before .if1 in
     let s = c .before .before .before .before .before .before .before .before .before .before .before in
-    corrected-is _ _ _ _ _ _ _ (s .pre .0 .1) (s .pre .1 .0) (s .pre .1 .1) _ (c .before .before .before .before .before .before .if1 .left) (c .before .before .before .before .before .if2 .left) (c .corrected-code .ensures)
+    corrected-is _ _ _ _ _ _ _ (s .pre .0 .1) (s .pre .1 .0) (s .pre .1 .1) _ (if1 .left) (if2 .left) (c .corrected-code .ensures)
 
 pub corrected-at-spec : {M : Type 1} → statement M
 corrected-at-spec =
@@ -45,9 +42,9 @@ corrected-at-spec =
     (tie.spec
     returns
     returns-2
-    shared-slice-read-corrected-code
-    shared-slice-read-corrected-code-2
+    (λ c. search needs)
+    (λ c. search needs)
     shared-slice-read-corrected-code-3
     shared-slice-read-corrected-code-4
-    corrected-code-requires
+    (λ c κs. search needs)
     returns-3)

@@ -6,12 +6,6 @@ use Rattle.rewriting.proofs.LetterLaws.{if-yes, if-no}
 use Rattle.rewriting.proofs.letters.corrected_code.Statement.{statement}
 use Rattle.rewriting.proofs.letters.corrected_code.Tie as tie
 
-is-call-requires : tie.Need-is-call-requires
-is-call-requires c κs = search needs
-
-letter-of-requires : tie.Need-letter-of-requires
-letter-of-requires c κs = search needs
-
 returns : tie.Need-returns
 returns c = c .letter-of .ensures ∙ if-yes _ _ (sym (c .before .before .is-call .ensures) ∙ c .before .if1 .taken)
 
@@ -19,4 +13,4 @@ returns-2 : tie.Need-returns-2
 returns-2 c = if-no _ _ (sym (c .before .is-call .ensures) ∙ c .if1 .left)
 
 pub corrected-code-spec : {M : Type 1} → statement M
-corrected-code-spec = tie.close (tie.spec is-call-requires letter-of-requires returns returns-2)
+corrected-code-spec = tie.close (tie.spec (λ c κs. search needs) (λ c κs. search needs) returns returns-2)

@@ -14,22 +14,22 @@ abbrev μ-loop : tie.MeasureT-loop
 μ-loop m n cells sides first second corrected₀ k₀ corrected k = 16384 - k
 
 loop-holds : tie.Need-loop-holds Inv-loop μ-loop
-loop-holds c = filled-none 16384 _ _ (c .before .before .before .before .before .pre .0 .2)
+loop-holds c =
+    let start = c .before .before .before .before .before in
+    filled-none 16384 _ _ (start .pre .0 .2)
 
 corrected-at-requires : tie.Need-corrected-at-requires Inv-loop μ-loop
-corrected-at-requires c κs = let p = c .before .before .before .before .before .before .before .pre in ((p .0 .0, p .0 .1, c .loop-test .taken), p .1)
+corrected-at-requires c κs =
+    let start = c .before .before .before .before .before .before .before in
+    let p = start .pre in ((p .0 .0, p .0 .1, c .loop-test .taken), p .1)
 
 slice-write-corrected : tie.Need-slice-write-corrected Inv-loop μ-loop
 slice-write-corrected c = let e = c .before .before .loop .inv .sized in search needs
 
-add-k : tie.Need-add-k Inv-loop μ-loop
-add-k c = search needs
-
-loop-less : tie.Need-loop-less Inv-loop μ-loop
-loop-less c = search needs
-
 loop-again : tie.Need-loop-again Inv-loop μ-loop
-loop-again c = filled-more 16384 _ (c .before .before .loop .k) (c .before .before .loop .corrected) (c .corrected-at .result) (c .before .before .loop .inv) (c .before .loop-test .taken) (c .corrected-at .ensures)
+loop-again c =
+    let loop = c .before .before .loop in
+    filled-more 16384 _ (loop .k) (loop .corrected) (c .corrected-at .result) (loop .inv) (c .before .loop-test .taken) (c .corrected-at .ensures)
 
 same-length : tie.Need-same-length Inv-loop μ-loop
 same-length c = let e = c .before .loop .inv .sized in search needs
@@ -47,8 +47,8 @@ fill-corrected-spec =
     loop-holds
     corrected-at-requires
     slice-write-corrected
-    add-k
-    loop-less
+    (λ c. search needs)
+    (λ c. search needs)
     loop-again
     same-length
     returns)

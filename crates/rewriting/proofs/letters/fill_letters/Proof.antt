@@ -15,22 +15,17 @@ abbrev μ-loop : tie.MeasureT-loop
 μ-loop m cells sides s letters₀ c₀ letters c = 128 - c
 
 loop-holds : tie.Need-loop-holds Inv-loop μ-loop
-loop-holds c = filled-none 128 _ _ (c .before .before .before .pre .3)
-
-side-letter-requires : tie.Need-side-letter-requires Inv-loop μ-loop
-side-letter-requires c κs = search needs
+loop-holds c =
+    let start = c .before .before .before in
+    filled-none 128 _ _ (start .pre .3)
 
 slice-write-letters : tie.Need-slice-write-letters Inv-loop μ-loop
 slice-write-letters c = let e = c .before .before .loop .inv .sized in search needs
 
-add-c : tie.Need-add-c Inv-loop μ-loop
-add-c c = search needs
-
-loop-less : tie.Need-loop-less Inv-loop μ-loop
-loop-less c = search needs
-
 loop-again : tie.Need-loop-again Inv-loop μ-loop
-loop-again c = filled-more 128 _ (c .before .before .loop .c) (c .before .before .loop .letters) (c .side-letter .result) (c .before .before .loop .inv) (c .before .loop-test .taken) (c .side-letter .ensures)
+loop-again c =
+    let loop = c .before .before .loop in
+    filled-more 128 _ (loop .c) (loop .letters) (c .side-letter .result) (loop .inv) (c .before .loop-test .taken) (c .side-letter .ensures)
 
 same-length : tie.Need-same-length Inv-loop μ-loop
 same-length c = let e = c .before .loop .inv .sized in search needs
@@ -45,10 +40,10 @@ fill-letters-spec =
     Inv-loop
     μ-loop
     loop-holds
-    side-letter-requires
+    (λ c κs. search needs)
     slice-write-letters
-    add-c
-    loop-less
+    (λ c. search needs)
+    (λ c. search needs)
     loop-again
     same-length
     returns)

@@ -20,48 +20,29 @@ abbrev μ-loop : tie.MeasureT-loop
 loop-holds : tie.Need-loop-holds Inv-loop μ-loop
 loop-holds c = (search needs, count-none _)
 
-mul-is-letter : tie.Need-mul-is-letter Inv-loop μ-loop
-mul-is-letter c = search needs
-
-add-is-letter : tie.Need-add-is-letter Inv-loop μ-loop
-add-is-letter c = search needs
-
-shared-slice-read-is-letter : tie.Need-shared-slice-read-is-letter Inv-loop μ-loop
-shared-slice-read-is-letter c = search needs
-
-shared-slice-read-is-letter-2 : tie.Need-shared-slice-read-is-letter-2 Inv-loop μ-loop
-shared-slice-read-is-letter-2 c = search needs
-
-is-letter-requires : tie.Need-is-letter-requires Inv-loop μ-loop
-is-letter-requires c κs = search needs
-
-one-if-requires : tie.Need-one-if-requires Inv-loop μ-loop
-one-if-requires c κs = search needs
-
 add-count : tie.Need-add-count Inv-loop μ-loop
 add-count c =
-    let l = c .before .before .before .before .before .loop in
-    let a = c .before .before .before .before .before .before .before .before .args in
+    let loop = c .before .before .before .before .before .loop in
+    let start = c .before .before .before .before .before .before .before .before in
+    let l = loop in
+    let a = start .args in
     let low = count-bound (l .i) (sideHas (a .cells .now) (a .sides .now) (a .s) (a .c) (a .letter)) in
     let one = c .one-if .ensures .1 in
     omega arith
 
-add-i : tie.Need-add-i Inv-loop μ-loop
-add-i c = search needs
-
-loop-less : tie.Need-loop-less Inv-loop μ-loop
-loop-less c = search needs
-
 loop-again : tie.Need-loop-again Inv-loop μ-loop
 unfolding sideHas
 loop-again c =
-    let l = c .before .before .before .before .before .loop in
-    let a = c .before .before .before .before .before .before .before .before .args in
+    let loop = c .before .before .before .before .before .loop in
+    let start = c .before .before .before .before .before .before .before .before in
+    let l = loop in
+    let a = start .args in
     (search needs, ap₂ _+_ (l .inv .1) (c .one-if .ensures .0 ∙ ap bit (c .before .is-letter .ensures)) ∙ sym (count-next (l .i) (sideHas (a .cells .now) (a .sides .now) (a .s) (a .c) (a .letter))))
 
 returns : tie.Need-returns Inv-loop μ-loop
 returns c =
-    let a = c .before .before .before .before .args in
+    let start = c .before .before .before .before in
+    let a = start .args in
     let l = c .before .loop in
     let e : l .i ≡ a .m = omega arith in
     l .inv .1
@@ -75,14 +56,14 @@ side-count-spec =
     Inv-loop
     μ-loop
     loop-holds
-    mul-is-letter
-    add-is-letter
-    shared-slice-read-is-letter
-    shared-slice-read-is-letter-2
-    is-letter-requires
-    one-if-requires
+    (λ c. search needs)
+    (λ c. search needs)
+    (λ c. search needs)
+    (λ c. search needs)
+    (λ c κs. search needs)
+    (λ c κs. search needs)
     add-count
-    add-i
-    loop-less
+    (λ c. search needs)
+    (λ c. search needs)
     loop-again
     returns)

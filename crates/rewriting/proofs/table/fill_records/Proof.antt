@@ -27,10 +27,9 @@ inside : (c : tie.In-loop Inv-loop μ-loop) → c .before .loop .k / 32 < fragme
 inside c = omega (arith, c .loop-test .taken, c .before .loop .inv .sized)
 
 loop-holds : tie.Need-loop-holds Inv-loop μ-loop
-loop-holds c = filled-none _ _ _ (c .before .before .before .pre .2)
-
-record-at-requires : tie.Need-record-at-requires Inv-loop μ-loop
-record-at-requires c κs = search needs
+loop-holds c =
+    let start = c .before .before .before in
+    filled-none _ _ _ (start .pre .2)
 
 new-byte-requires : tie.Need-new-byte-requires Inv-loop μ-loop
 new-byte-requires c κs =
@@ -39,12 +38,6 @@ new-byte-requires c κs =
     let l = inside (c .before) in
     let e = ap length (part-record _ _ _ (c .record-at .ensures) l) ∙ length-recordAt _ _ l in
     (s .pre .0, omega arith, e, omega arith)
-
-slice-write-output : tie.Need-slice-write-output Inv-loop μ-loop
-slice-write-output c = search needs
-
-add-k : tie.Need-add-k Inv-loop μ-loop
-add-k c = search needs
 
 loop-less : tie.Need-loop-less Inv-loop μ-loop
 loop-less c = let e = c .before .before .before .loop .inv .sized in omega arith
@@ -58,7 +51,9 @@ loop-again c =
     (c .new-byte .ensures ∙ ap (λ (r : List ℕ). getD (rewritten r (rowIn (s .args .cells .now) (l .k / 32))) (l .k % 32) 0) (part-record _ _ _ (c .before .record-at .ensures) (inside (c .before .before))))
 
 same-length : tie.Need-same-length Inv-loop μ-loop
-same-length c = c .before .loop .inv .sized ∙ sym (c .before .before .before .before .before .pre .2)
+same-length c =
+    let start = c .before .before .before .before .before in
+    c .before .loop .inv .sized ∙ sym (start .pre .2)
 
 returns : tie.Need-returns Inv-loop μ-loop
 returns c = filled-all _ _ (c .before .loop .k) (c .before .loop .output) (c .before .loop .inv) (omega (arith, c .before .loop .inv .sized)) ∙ records-written _ _
@@ -70,10 +65,10 @@ fill-records-spec =
     Inv-loop
     μ-loop
     loop-holds
-    record-at-requires
+    (λ c κs. search needs)
     new-byte-requires
-    slice-write-output
-    add-k
+    (λ c. search needs)
+    (λ c. search needs)
     loop-less
     loop-again
     same-length

@@ -17,24 +17,9 @@ Inv-loop m cells a c pairs₀ f₀ pairs f = (f ≤ m) × (pairs ≡ pairsOf (ma
 abbrev μ-loop : tie.MeasureT-loop
 μ-loop m cells a c pairs₀ f₀ pairs f = m - f
 
-none-requires : tie.Need-none-requires Inv-loop μ-loop
-none-requires c κs = search needs
-
 loop-holds : tie.Need-loop-holds Inv-loop μ-loop
 unfolding pairsOf
 loop-holds c = (search needs, c .none .ensures)
-
-cell-requires : tie.Need-cell-requires Inv-loop μ-loop
-cell-requires c κs = search needs
-
-cell-requires-2 : tie.Need-cell-requires-2 Inv-loop μ-loop
-cell-requires-2 c κs = search needs
-
-with-calls-requires : tie.Need-with-calls-requires Inv-loop μ-loop
-with-calls-requires c κs = search needs
-
-both-requires : tie.Need-both-requires Inv-loop μ-loop
-both-requires c κs = search needs
 
 returns : tie.Need-returns Inv-loop μ-loop
 unfolding matrixGrid columnsConflict callsBoth
@@ -45,22 +30,16 @@ returns c n =
     let e = pairs-next g (a .a) (a .c) (l .f) (l .inv .1) (c .before .before .before .before .cell .ensures) (c .before .before .before .cell2 .ensures) (c .before .before .with-calls .ensures) in
     sym (pairs-enough g (a .a) (a .c) (l .f + 1) (omega arith) (sym (c .before .both .ensures ∙ ap bothKinds e) ∙ c .if1 .taken))
 
-add-f : tie.Need-add-f Inv-loop μ-loop
-add-f c = search needs
-
-loop-less : tie.Need-loop-less Inv-loop μ-loop
-loop-less c = search needs
-
 loop-again : tie.Need-loop-again Inv-loop μ-loop
 unfolding matrixGrid
 loop-again c =
-    let a = c .before .before .before .before .before .before .before .before .before .args in
-    let l = c .before .before .before .before .before .before .loop in
+    let cell = c .before .before .before .before .cell in
+    let loop = c .before .before .before .before .before .before .loop in
+    let start = c .before .before .before .before .before .before .before .before .before in
+    let a = start .args in
+    let l = loop in
     let g = matrixGrid (a .m) 0 (a .cells .now) in
-    (search needs, pairs-next g (a .a) (a .c) (l .f) (l .inv .1) (c .before .before .before .before .cell .ensures) (c .before .before .before .cell2 .ensures) (c .before .before .with-calls .ensures))
-
-both-requires-2 : tie.Need-both-requires-2 Inv-loop μ-loop
-both-requires-2 c κs = search needs
+    (search needs, pairs-next g (a .a) (a .c) (l .f) (l .inv .1) (cell .ensures) (c .before .before .before .cell2 .ensures) (c .before .before .with-calls .ensures))
 
 returns-2 : tie.Need-returns-2 Inv-loop μ-loop
 unfolding matrixGrid columnsConflict callsBoth
@@ -77,15 +56,15 @@ columns-conflict-spec =
     (tie.spec
     Inv-loop
     μ-loop
-    none-requires
+    (λ c κs. search needs)
     loop-holds
-    cell-requires
-    cell-requires-2
-    with-calls-requires
-    both-requires
+    (λ c κs. search needs)
+    (λ c κs. search needs)
+    (λ c κs. search needs)
+    (λ c κs. search needs)
     returns
-    add-f
-    loop-less
+    (λ c. search needs)
+    (λ c. search needs)
     loop-again
-    both-requires-2
+    (λ c κs. search needs)
     returns-2)

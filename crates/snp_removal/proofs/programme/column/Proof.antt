@@ -24,12 +24,6 @@ Inv-loop m cells counts₀ highs₀ lows₀ i out next j₀ counts highs lows j 
 abbrev μ-loop : tie.MeasureT-loop
 μ-loop m cells counts₀ highs₀ lows₀ i out next j₀ counts highs lows j = next - j
 
-single-requires : tie.Need-single-requires Inv-loop μ-loop
-single-requires c κs = search needs
-
-add-next : tie.Need-add-next Inv-loop μ-loop
-add-next c = search needs
-
 loop-holds : tie.Need-loop-holds Inv-loop μ-loop
 loop-holds c = (search needs, refl, refl, refl, c .single .ensures ∙ omega arith, sweep-none _ _ 0)
 
@@ -52,12 +46,6 @@ weight-at-requires c κs =
 put-requires : tie.Need-put-requires Inv-loop μ-loop
 put-requires c κs = (record { in-counts = search needs; in-highs = search needs; in-lows = search needs }, c .before .before .before .weight-at .ensures .1)
 
-add-j : tie.Need-add-j Inv-loop μ-loop
-add-j c = search needs
-
-loop-less : tie.Need-loop-less Inv-loop μ-loop
-loop-less c = search needs
-
 loop-again : tie.Need-loop-again Inv-loop μ-loop
 loop-again c =
     let l = c .before .before .before .before .before .before .before .before .before .before .before .before .before .before .before .loop in
@@ -74,15 +62,6 @@ loop-again c =
           (c .before .before .before .before .before .before .before .before .before .before .weight-at .ensures .0 0 ∙ turn g i (l .j) (l .inv .5) (omega arith))),
     )
 
-same-length : tie.Need-same-length Inv-loop μ-loop
-same-length c = search needs
-
-same-length-2 : tie.Need-same-length-2 Inv-loop μ-loop
-same-length-2 c = search needs
-
-same-length-3 : tie.Need-same-length-3 Inv-loop μ-loop
-same-length-3 c = search needs
-
 returns : tie.Need-returns Inv-loop μ-loop
 returns c n =
     let l = c .before .loop in
@@ -97,15 +76,15 @@ column-spec =
     (tie.spec
     Inv-loop
     μ-loop
-    single-requires
-    add-next
+    (λ c κs. search needs)
+    (λ c. search needs)
     loop-holds
     weight-at-requires
     put-requires
-    add-j
-    loop-less
+    (λ c. search needs)
+    (λ c. search needs)
     loop-again
-    same-length
-    same-length-2
-    same-length-3
+    (λ c. search needs)
+    (λ c. search needs)
+    (λ c. search needs)
     returns)

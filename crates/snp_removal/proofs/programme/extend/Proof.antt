@@ -8,15 +8,6 @@ use Rattle.snp_removal.proofs.StateLaws.{holds-room, holds-mixed, holds
 use Rattle.snp_removal.proofs.programme.extend.Statement.{statement}
 use Rattle.snp_removal.proofs.programme.extend.Tie as tie
 
-sub-i : tie.Need-sub-i
-sub-i c = search needs
-
-sub-i-2 : tie.Need-sub-i-2
-sub-i-2 c = search needs
-
-column-mixed-requires : tie.Need-column-mixed-requires
-column-mixed-requires c κs = search needs
-
 column-requires : tie.Need-column-requires
 unfolding matrixGrid
 column-requires c κs =
@@ -24,22 +15,16 @@ column-requires c κs =
     let a = s .args in
     (s .pre .0, s .pre .1, search needs, s .pre .4, holds-room (matrixGrid (a .m) (a .n) (a .cells .now)) (a .k) _ (at (a .counts .now) (a .highs .now) (a .lows .now)) (s .pre .3) refl (s .pre .5) (s .pre .2))
 
-same-length : tie.Need-same-length
-same-length c = search needs
-
-same-length-2 : tie.Need-same-length-2
-same-length-2 c = search needs
-
-same-length-3 : tie.Need-same-length-3
-same-length-3 c = search needs
-
 returns : tie.Need-returns
 unfolding matrixGrid
 returns c =
+    let column = c .before .before .before .before .before .before .column in
+    let if1 = c .before .before .before .before .before .before .before .before .before .before .if1 in
+    let column-mixed = c .before .before .before .before .before .before .before .before .before .before .before .column-mixed in
     let s = c .before .before .before .before .before .before .before .before .before .before .before .before .before .before .before .before in
     let a = s .args in
     holds-mixed (matrixGrid (a .m) (a .n) (a .cells .now)) (a .k) _ (at (a .counts .now) (a .highs .now) (a .lows .now)) (s .pre .3) refl (s .pre .5) _
-    (sym (c .before .before .before .before .before .before .before .before .before .before .before .column-mixed .ensures (a .n)) ∙ c .before .before .before .before .before .before .before .before .before .before .if1 .taken) (c .before .before .before .before .before .before .column .ensures (a .n))
+    (sym (column-mixed .ensures (a .n)) ∙ if1 .taken) (column .ensures (a .n))
 
 returns-2 : tie.Need-returns-2
 unfolding matrixGrid
@@ -53,12 +38,12 @@ pub extend-spec : {M : Type 1} → statement M
 extend-spec =
     tie.close
     (tie.spec
-    sub-i
-    sub-i-2
-    column-mixed-requires
+    (λ c. search needs)
+    (λ c. search needs)
+    (λ c κs. search needs)
     column-requires
-    same-length
-    same-length-2
-    same-length-3
+    (λ c. search needs)
+    (λ c. search needs)
+    (λ c. search needs)
     returns
     returns-2)

@@ -19,35 +19,27 @@ abbrev μ-loop : tie.MeasureT-loop
 μ-loop m n cells counts₀ highs₀ lows₀ k₀ counts highs lows k = n - k
 
 loop-holds : tie.Need-loop-holds Inv-loop μ-loop
-loop-holds c = (search needs, refl, refl, refl, c .before .before .before .before .pre .4)
+loop-holds c =
+    let start = c .before .before .before .before in
+    (search needs, refl, refl, refl, start .pre .4)
 
 extend-requires : tie.Need-extend-requires Inv-loop μ-loop
 extend-requires c κs =
-    let p = c .before .before .before .before .before .before .before .before .before .pre in
-    (p .0, p .1, p .2, search needs, record { counts-size = search needs; highs-size = search needs; lows-size = search needs }, c .before .before .before .before .loop .inv .4)
-
-add-k : tie.Need-add-k Inv-loop μ-loop
-add-k c = search needs
-
-loop-less : tie.Need-loop-less Inv-loop μ-loop
-loop-less c = search needs
+    let loop = c .before .before .before .before .loop in
+    let start = c .before .before .before .before .before .before .before .before .before in
+    let p = start .pre in
+    (p .0, p .1, p .2, search needs, record { counts-size = search needs; highs-size = search needs; lows-size = search needs }, loop .inv .4)
 
 loop-again : tie.Need-loop-again Inv-loop μ-loop
-loop-again c = (search needs, search needs, search needs, search needs, c .before .before .before .before .before .before .extend .ensures)
-
-same-length : tie.Need-same-length Inv-loop μ-loop
-same-length c = search needs
-
-same-length-2 : tie.Need-same-length-2 Inv-loop μ-loop
-same-length-2 c = search needs
-
-same-length-3 : tie.Need-same-length-3 Inv-loop μ-loop
-same-length-3 c = search needs
+loop-again c =
+    let extend = c .before .before .before .before .before .before .extend in
+    (search needs, search needs, search needs, search needs, extend .ensures)
 
 returns : tie.Need-returns Inv-loop μ-loop
 returns c =
+    let start = c .before .before .before .before .before .before in
     let l = c .before .loop in
-    let a = c .before .before .before .before .before .before .args in
+    let a = start .args in
     subst (λ (k : ℕ). HoldsColumns (matrixGrid (a .m) (a .n) (a .cells .now)) k (at (l .counts) (l .highs) (l .lows))) (le-antisymm (l .inv .0) (c .loop-test .left)) (l .inv .4)
 
 pub suffixes-spec : {M : Type 1} → statement M
@@ -58,10 +50,10 @@ suffixes-spec =
     μ-loop
     loop-holds
     extend-requires
-    add-k
-    loop-less
+    (λ c. search needs)
+    (λ c. search needs)
     loop-again
-    same-length
-    same-length-2
-    same-length-3
+    (λ c. search needs)
+    (λ c. search needs)
+    (λ c. search needs)
     returns)

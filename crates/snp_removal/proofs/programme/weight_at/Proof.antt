@@ -11,25 +11,10 @@ use Rattle.snp_removal.proofs.StateLaws.{sum-fits, count-fits, mixed-we
 use Rattle.snp_removal.proofs.programme.weight_at.Statement.{statement}
 use Rattle.snp_removal.proofs.programme.weight_at.Tie as tie
 
-get-requires : tie.Need-get-requires
-get-requires c κs = search needs
-
 plus-requires : tie.Need-plus-requires
 plus-requires c κs =
     let s = c .before .before .before .before .before in
     sum-fits (s .args .i) (s .args .out) (c .get .result) (s .pre .2) (search needs) (search needs) (search needs) (search needs) (s .pre .4) (c .get .ensures) (s .pre .6)
-
-add-get : tie.Need-add-get
-add-get c = search needs
-
-get-requires-2 : tie.Need-get-requires-2
-get-requires-2 c κs = search needs
-
-may-follow-requires : tie.Need-may-follow-requires
-may-follow-requires c κs = search needs
-
-lesser-if-requires : tie.Need-lesser-if-requires
-lesser-if-requires c κs = search needs
 
 returns : tie.Need-returns
 returns c =
@@ -44,10 +29,10 @@ pub weight-at-spec : {M : Type 1} → statement M
 weight-at-spec =
     tie.close
     (tie.spec
-    get-requires
+    (λ c κs. search needs)
     plus-requires
-    add-get
-    get-requires-2
-    may-follow-requires
-    lesser-if-requires
+    (λ c. search needs)
+    (λ c κs. search needs)
+    (λ c κs. search needs)
+    (λ c κs. search needs)
     returns)

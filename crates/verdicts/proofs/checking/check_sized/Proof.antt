@@ -25,42 +25,47 @@ mul-if1-2 : tie.Need-mul-if1-2
 mul-if1-2 c = let a = sized-m (c .before .before .pre) in omega arith
 
 add-if1 : tie.Need-add-if1
-add-if1 c = let a = sized-n (c .before .before .pre) in let b = sized-m (c .before .before .pre) in omega arith
+add-if1 c =
+    let pre = c .before .before .pre in
+    let a = sized-n (pre) in let b = sized-m (pre) in omega arith
 
 returns : tie.Need-returns
 unfolding answerSize
-returns c = check-refuses _ _ _ 11 0 (check-length _ _ _ (c .before .before .before .args .m) (c .before .before .before .pre) (c .if1 .taken))
-
-records-fault-requires : tie.Need-records-fault-requires
-records-fault-requires c κs = search needs
-
-enum-known-rest : tie.Need-enum-known-rest
-enum-known-rest c = search needs
-
-enum-told : tie.Need-enum-told
-enum-told c = search needs
+returns c =
+    let start = c .before .before .before in
+    check-refuses _ _ _ 11 0 (check-length _ _ _ (start .args .m) (start .pre) (c .if1 .taken))
 
 phase-table-requires : tie.Need-phase-table-requires
 unfolding answerSize
-phase-table-requires c κs = (c .before .before .before .before .before .before .before .pre, c .before .before .before .before .if1 .left)
-
-same-length : tie.Need-same-length
-same-length c = search needs
+phase-table-requires c κs =
+    let if1 = c .before .before .before .before .if1 in
+    let start = c .before .before .before .before .before .before .before in
+    (start .pre, if1 .left)
 
 returns-2 : tie.Need-returns-2
 unfolding answerSize
-returns-2 c = check-says _ _ _ (c .before .before .before .before .before .before .before .before .before .before .before .args .m) (c .before .before .before .before .before .before .before .before .before .before .before .pre) _ _ _ (c .before .before .before .before .before .before .before .before .if1 .left) (sym (c .before .before .before .before .before .before .before .records-fault .ensures) ∙ ap outcomeOf (c .before .before .before .before .before .enum-told .given .1)) (said (c .before .before .before) _ (c .if2 .taken))
+returns-2 c =
+    let enum-told-step = c .before .before .before .before .before .enum-told in
+    let records-fault = c .before .before .before .before .before .before .before .records-fault in
+    let if1 = c .before .before .before .before .before .before .before .before .if1 in
+    let start = c .before .before .before .before .before .before .before .before .before .before .before in
+    check-says _ _ _ (start .args .m) (start .pre) _ _ _ (if1 .left) (sym (records-fault .ensures) ∙ ap outcomeOf (enum-told-step .given .1)) (said (c .before .before .before) _ (c .if2 .taken))
 
 returns-3 : tie.Need-returns-3
 unfolding answerSize
-returns-3 c = check-refuses _ _ _ _ _ (check-records _ _ _ (c .before .before .before .before .before .before .before .args .m) (c .before .before .before .before .before .before .before .pre) (c .before .before .before .before .if1 .left) ∙ decide-refused _ _ _ _ _ (sym (c .before .before .before .records-fault .ensures) ∙ ap outcomeOf (c .before .rest .given .1)))
-
-same-length-2 : tie.Need-same-length-2
-same-length-2 c = search needs
+returns-3 c =
+    let if1 = c .before .before .before .before .if1 in
+    let start = c .before .before .before .before .before .before .before in
+    check-refuses _ _ _ _ _ (check-records _ _ _ (start .args .m) (start .pre) (if1 .left) ∙ decide-refused _ _ _ _ _ (sym (c .before .before .before .records-fault .ensures) ∙ ap outcomeOf (c .before .rest .given .1)))
 
 returns-4 : tie.Need-returns-4
 unfolding answerSize
-returns-4 c = check-says _ _ _ (c .before .before .before .before .before .before .before .before .before .before .before .args .m) (c .before .before .before .before .before .before .before .before .before .before .before .pre) _ _ _ (c .before .before .before .before .before .before .before .before .if1 .left) (sym (c .before .before .before .before .before .before .before .records-fault .ensures) ∙ ap outcomeOf (c .before .before .before .before .before .enum-told .given .1)) (said (c .before .before .before) _ (c .if2 .left))
+returns-4 c =
+    let enum-told-step = c .before .before .before .before .before .enum-told in
+    let records-fault = c .before .before .before .before .before .before .before .records-fault in
+    let if1 = c .before .before .before .before .before .before .before .before .if1 in
+    let start = c .before .before .before .before .before .before .before .before .before .before .before in
+    check-says _ _ _ (start .args .m) (start .pre) _ _ _ (if1 .left) (sym (records-fault .ensures) ∙ ap outcomeOf (enum-told-step .given .1)) (said (c .before .before .before) _ (c .if2 .left))
 
 pub check-sized-spec : {M : Type 1} → statement M
 check-sized-spec =
@@ -70,12 +75,12 @@ check-sized-spec =
     mul-if1-2
     add-if1
     returns
-    records-fault-requires
-    enum-known-rest
-    enum-told
+    (λ c κs. search needs)
+    (λ c. search needs)
+    (λ c. search needs)
     phase-table-requires
-    same-length
+    (λ c. search needs)
     returns-2
     returns-3
-    same-length-2
+    (λ c. search needs)
     returns-4)

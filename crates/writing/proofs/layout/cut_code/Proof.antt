@@ -10,12 +10,6 @@ use Rattle.records.proofs.PackLaws.{cut-in, cut-out}
 use Rattle.writing.proofs.layout.cut_code.Statement.{statement}
 use Rattle.writing.proofs.layout.cut_code.Tie as tie
 
-add-byte : tie.Need-add-byte
-add-byte c = search needs
-
-byte-requires : tie.Need-byte-requires
-byte-requires c κs = search needs
-
 returns : tie.Need-returns
 returns c =
     let s = c .before .before .before in
@@ -30,4 +24,4 @@ returns-2 c =
     (sym (cut-out (a .start) (a .span) (codesOf (a .row .now)) (a .i) (c .if1 .left)), search needs)
 
 pub cut-code-spec : {M : Type 1} → statement M
-cut-code-spec = tie.close (tie.spec add-byte byte-requires returns returns-2)
+cut-code-spec = tie.close (tie.spec (λ c. search needs) (λ c κs. search needs) returns returns-2)

@@ -20,9 +20,6 @@ abbrev μ-loop : tie.MeasureT-loop
 loop-holds : tie.Need-loop-holds Inv-loop μ-loop
 loop-holds c = (omega arith, refl, λ j h. absurd (omega arith))
 
-record-byte-requires : tie.Need-record-byte-requires Inv-loop μ-loop
-record-byte-requires c κs = search needs
-
 slice-write-record : tie.Need-slice-write-record Inv-loop μ-loop
 slice-write-record c = omega arith
 
@@ -34,8 +31,9 @@ loop-less c = omega arith
 
 loop-again : tie.Need-loop-again Inv-loop μ-loop
 loop-again c =
+    let start-step = c .before .before .before .before .before in
     let l = c .before .before .loop in
-    let a = c .before .before .before .before .before .args in
+    let a = start-step .args in
     let f : ℕ → ℕ = λ j. getD (laidOut (a .tag) (a .start) (a .span) (cut (a .start) (a .span) (codesOf (a .row .now)))) j 0 in
     (simp length-set (omega arith), simp length-set (l .inv .1), fill-next f (l .«record») (l .k) (c .record-byte .result) (omega arith) (l .inv .2) (c .record-byte .ensures))
 
@@ -58,7 +56,7 @@ fill-record-spec =
     Inv-loop
     μ-loop
     loop-holds
-    record-byte-requires
+    (λ c κs. search needs)
     slice-write-record
     add-k
     loop-less

@@ -7,15 +7,6 @@ use Rattle.records.specs.Writing.{bytesOf}
 use Rattle.writing.proofs.layout.frame_byte.Statement.{statement}
 use Rattle.writing.proofs.layout.frame_byte.Tie as tie
 
-cast-result : tie.Need-cast-result
-cast-result c = search needs
-
-cast-result-2 : tie.Need-cast-result-2
-cast-result-2 c = search needs
-
-cast-result-3 : tie.Need-cast-result-3
-cast-result-3 c = search needs
-
 returns : tie.Need-returns
 unfolding bytesOf
 returns c = rw (c .match .keys1) refl
@@ -35,4 +26,4 @@ returns-4 c = let e : c .before .args .k ≡ 3 = omega arith in rw e refl
 pub frame-byte-spec : {M : Type 1} → statement M
 frame-byte-spec =
     tie.close
-    (tie.spec cast-result cast-result-2 cast-result-3 returns returns-2 returns-3 returns-4)
+    (tie.spec (λ c. search needs) (λ c. search needs) (λ c. search needs) returns returns-2 returns-3 returns-4)

@@ -14,22 +14,18 @@ returns c =
     let row = c .before .before .args .row .now in
     wide-refused (length row) (codesOf row) (c .if1 .taken)
 
-any-unknown-requires : tie.Need-any-unknown-requires
-any-unknown-requires c κs = search needs
-
 returns-2 : tie.Need-returns-2
 returns-2 c =
-    let row = c .before .before .before .before .args .row .now in
+    let start = c .before .before .before .before in
+    let row = start .args .row .now in
     unknown-refused (length row) (codesOf row) (passes (c .before .any-unknown .ensures) (c .if2 .taken))
-
-calls-span-requires : tie.Need-calls-span-requires
-calls-span-requires c κs = search needs
 
 returns-3 : tie.Need-returns-3
 returns-3 c =
-    let row = c .before .before .before .before .before .args .row .now in
+    let start = c .before .before .before .before .before in
+    let row = start .args .row .now in
     writable-by-span (length row) (codesOf row) _ (omega arith) (fails (c .before .before .any-unknown .ensures) (c .before .if2 .left)) (c .calls-span .ensures)
 
 pub is-writable-spec : {M : Type 1} → statement M
 is-writable-spec =
-    tie.close (tie.spec returns any-unknown-requires returns-2 calls-span-requires returns-3)
+    tie.close (tie.spec returns (λ c κs. search needs) returns-2 (λ c κs. search needs) returns-3)

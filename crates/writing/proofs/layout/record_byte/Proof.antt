@@ -8,31 +8,25 @@ use Rattle.writing.proofs.LayoutLaws.{tag-byte-at, frame-byte-at, cell-
 use Rattle.writing.proofs.layout.record_byte.Statement.{statement}
 use Rattle.writing.proofs.layout.record_byte.Tie as tie
 
-tag-byte-requires : tie.Need-tag-byte-requires
-tag-byte-requires c κs = search needs
-
 returns : tie.Need-returns
 returns c =
-    let a = c .before .before .before .args in
+    let start = c .before .before .before in
+    let a = start .args in
     c .tag-byte .ensures ∙ sym (tag-byte-at (a .tag) (a .start) (a .span) (cut (a .start) (a .span) (codesOf (a .row .now))) (a .k) (omega arith))
-
-frame-byte-requires : tie.Need-frame-byte-requires
-frame-byte-requires c κs = search needs
 
 returns-2 : tie.Need-returns-2
 returns-2 c =
-    let a = c .before .before .before .before .args in
+    let start = c .before .before .before .before in
+    let a = start .args in
     c .frame-byte .ensures ∙ sym (frame-byte-at (a .tag) (a .start) (a .span) (cut (a .start) (a .span) (codesOf (a .row .now))) (a .k) (omega arith) (omega arith))
-
-cell-byte-requires : tie.Need-cell-byte-requires
-cell-byte-requires c κs = search needs
 
 returns-3 : tie.Need-returns-3
 returns-3 c =
-    let a = c .before .before .before .before .args in
+    let start = c .before .before .before .before in
+    let a = start .args in
     c .cell-byte .ensures ∙ sym (cell-byte-at (a .tag) (a .start) (a .span) (cut (a .start) (a .span) (codesOf (a .row .now))) (a .k) (omega arith) (omega arith))
 
 pub record-byte-spec : {M : Type 1} → statement M
 record-byte-spec =
     tie.close
-    (tie.spec tag-byte-requires returns frame-byte-requires returns-2 cell-byte-requires returns-3)
+    (tie.spec (λ c κs. search needs) returns (λ c κs. search needs) returns-2 (λ c κs. search needs) returns-3)

@@ -7,18 +7,6 @@ use Rattle.records.specs.Writing.{bytesOf}
 use Rattle.writing.proofs.layout.tag_byte.Statement.{statement}
 use Rattle.writing.proofs.layout.tag_byte.Tie as tie
 
-cast-result : tie.Need-cast-result
-cast-result c = search needs
-
-cast-result-2 : tie.Need-cast-result-2
-cast-result-2 c = search needs
-
-cast-result-3 : tie.Need-cast-result-3
-cast-result-3 c = search needs
-
-cast-result-4 : tie.Need-cast-result-4
-cast-result-4 c = search needs
-
 returns : tie.Need-returns
 unfolding bytesOf
 returns c = rw (c .match .keys1) refl
@@ -39,10 +27,10 @@ pub tag-byte-spec : {M : Type 1} → statement M
 tag-byte-spec =
     tie.close
     (tie.spec
-    cast-result
-    cast-result-2
-    cast-result-3
-    cast-result-4
+    (λ c. search needs)
+    (λ c. search needs)
+    (λ c. search needs)
+    (λ c. search needs)
     returns
     returns-2
     returns-3

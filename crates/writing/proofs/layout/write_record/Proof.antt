@@ -13,22 +13,15 @@ use Rattle.writing.proofs.layout.write_record.Tie as tie
 
 returns : tie.Need-returns
 returns c =
-    let a = c .before .before .before .args in
+    let start = c .before .before .before in
+    let a = start .args in
     not-long (a .tag) (a .row .now) (a .«record» .now) (c .if1 .taken)
-
-is-writable-requires : tie.Need-is-writable-requires
-is-writable-requires c κs = search needs
 
 returns-2 : tie.Need-returns-2
 returns-2 c =
-    let a = c .before .before .before .before .before .args in
+    let start = c .before .before .before .before .before in
+    let a = start .args in
     not-writable (a .tag) (a .row .now) (a .«record» .now) (fails (c .before .is-writable .ensures) (not-true _ (c .if2 .taken)))
-
-calls-start-requires : tie.Need-calls-start-requires
-calls-start-requires c κs = search needs
-
-calls-span-requires : tie.Need-calls-span-requires
-calls-span-requires c κs = search needs
 
 fill-record-requires : tie.Need-fill-record-requires
 fill-record-requires c κs =
@@ -41,19 +34,18 @@ fill-record-requires c κs =
     let f = span-fits (length row) (codesOf row) _ _ (c .before .before .calls-start .ensures) d in
     (w, (omega arith, omega arith, s .before .before .if1 .left))
 
-same-length : tie.Need-same-length
-same-length c = search needs
-
 returns-3 : tie.Need-returns-3
 returns-3 c =
+    let calls-span = c .before .before .before .before .calls-span in
+    let calls-start = c .before .before .before .before .before .calls-start in
     let s = c .before .before .before .before .before .before in
     let a = s .before .before .before .before .before .args in
     let w = passes (s .before .is-writable .ensures) (not-false _ (s .if2 .left)) in
     written (a .tag) (a .row .now) (a .«record» .now) _ _ _
     (s .before .before .if1 .left)
     w
-    (c .before .before .before .before .before .calls-start .ensures)
-    (c .before .before .before .before .calls-span .ensures)
+    (calls-start .ensures)
+    (calls-span .ensures)
     (c .before .before .fill-record .ensures)
 
 pub write-record-spec : {M : Type 1} → statement M
@@ -61,10 +53,10 @@ write-record-spec =
     tie.close
     (tie.spec
     returns
-    is-writable-requires
+    (λ c κs. search needs)
     returns-2
-    calls-start-requires
-    calls-span-requires
+    (λ c κs. search needs)
+    (λ c κs. search needs)
     fill-record-requires
-    same-length
+    (λ c. search needs)
     returns-3)

@@ -20,33 +20,24 @@ abbrev μ-loop : tie.MeasureT-loop
 loop-holds : tie.Need-loop-holds Inv-loop μ-loop
 loop-holds c = (search needs, refl)
 
-sub-is-call-at : tie.Need-sub-is-call-at Inv-loop μ-loop
-sub-is-call-at c = search needs
-
-is-call-at-requires : tie.Need-is-call-at-requires Inv-loop μ-loop
-is-call-at-requires c κs = search needs
-
 returns : tie.Need-returns Inv-loop μ-loop
 returns c =
-    let row = c .before .before .before .before .before .args .row .now in
+    let start = c .before .before .before .before .before in
+    let row = start .args .row .now in
     let l = c .before .before .before .loop in
     sym (l .inv .1 ∙ end-hit (codesOf row) (l .end) (omega arith) (passes (c .before .is-call-at .ensures) (c .if1 .taken)))
 
-sub-end : tie.Need-sub-end Inv-loop μ-loop
-sub-end c = search needs
-
-loop-less : tie.Need-loop-less Inv-loop μ-loop
-loop-less c = search needs
-
 loop-again : tie.Need-loop-again Inv-loop μ-loop
 loop-again c =
-    let row = c .before .before .before .before .before .args .row .now in
+    let start = c .before .before .before .before .before in
+    let row = start .args .row .now in
     let l = c .before .before .before .loop in
     (search needs, l .inv .1 ∙ end-miss (codesOf row) (l .end) (omega arith) (fails (c .before .is-call-at .ensures) (c .if1 .left)))
 
 returns-2 : tie.Need-returns-2 Inv-loop μ-loop
 returns-2 c =
-    let row = c .before .before .before .args .row .now in
+    let start = c .before .before .before in
+    let row = start .args .row .now in
     let l = c .before .loop in
     let e : l .end ≡ 0 = omega arith in
     sym (l .inv .1 ∙ ap (λ (n : ℕ). callsEnd n (codesOf row)) e ∙ end-none (codesOf row))
@@ -58,10 +49,10 @@ calls-end-spec =
     Inv-loop
     μ-loop
     loop-holds
-    sub-is-call-at
-    is-call-at-requires
+    (λ c. search needs)
+    (λ c κs. search needs)
     returns
-    sub-end
-    loop-less
+    (λ c. search needs)
+    (λ c. search needs)
     loop-again
     returns-2)

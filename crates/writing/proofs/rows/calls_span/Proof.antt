@@ -10,15 +10,10 @@ use Rattle.writing.proofs.ScanLaws.{start-le-end}
 use Rattle.writing.proofs.rows.calls_span.Statement.{statement}
 use Rattle.writing.proofs.rows.calls_span.Tie as tie
 
-calls-end-requires : tie.Need-calls-end-requires
-calls-end-requires c κs = search needs
-
-calls-start-requires : tie.Need-calls-start-requires
-calls-start-requires c κs = search needs
-
 sub-result : tie.Need-sub-result
 sub-result c =
-    let row = c .before .before .before .args .row .now in
+    let start = c .before .before .before in
+    let row = start .args .row .now in
     let e = c .before .calls-end .ensures in
     let s = c .calls-start .ensures in
     let h = start-le-end (length row) (codesOf row) in
@@ -29,4 +24,4 @@ unfolding callsSpan
 returns c = ap₂ (λ (e s : ℕ). e - s) (c .before .calls-end .ensures) (c .calls-start .ensures)
 
 pub calls-span-spec : {M : Type 1} → statement M
-calls-span-spec = tie.close (tie.spec calls-end-requires calls-start-requires sub-result returns)
+calls-span-spec = tie.close (tie.spec (λ c κs. search needs) (λ c κs. search needs) sub-result returns)

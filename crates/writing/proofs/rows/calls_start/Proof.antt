@@ -21,30 +21,24 @@ abbrev μ-loop : tie.MeasureT-loop
 loop-holds : tie.Need-loop-holds Inv-loop μ-loop
 loop-holds c = (search needs, none-yet (calls (codesOf (c .before .args .row .now))))
 
-is-call-at-requires : tie.Need-is-call-at-requires Inv-loop μ-loop
-is-call-at-requires c κs = search needs
-
 returns : tie.Need-returns Inv-loop μ-loop
 returns c =
-    let row = c .before .before .before .before .before .args .row .now in
+    let start = c .before .before .before .before .before in
+    let row = start .args .row .now in
     let l = c .before .before .before .loop in
     start-hit (length row) (codesOf row) (l .c) (omega arith) (l .inv .1) (sym (c .before .is-call-at .ensures) ∙ c .if1 .taken)
 
-add-c : tie.Need-add-c Inv-loop μ-loop
-add-c c = search needs
-
-loop-less : tie.Need-loop-less Inv-loop μ-loop
-loop-less c = search needs
-
 loop-again : tie.Need-loop-again Inv-loop μ-loop
 loop-again c =
-    let row = c .before .before .before .before .before .args .row .now in
+    let start = c .before .before .before .before .before in
+    let row = start .args .row .now in
     let l = c .before .before .before .loop in
     (search needs, none-more (l .c) (calls (codesOf row)) (l .inv .1) (sym (c .before .is-call-at .ensures) ∙ c .if1 .left))
 
 returns-2 : tie.Need-returns-2 Inv-loop μ-loop
 returns-2 c =
-    let row = c .before .before .before .args .row .now in
+    let start = c .before .before .before in
+    let row = start .args .row .now in
     start-miss (length row) (codesOf row) (c .before .loop .c) (omega arith) (c .before .loop .inv .1)
 
 pub calls-start-spec : {M : Type 1} → statement M
@@ -54,9 +48,9 @@ calls-start-spec =
     Inv-loop
     μ-loop
     loop-holds
-    is-call-at-requires
+    (λ c κs. search needs)
     returns
-    add-c
-    loop-less
+    (λ c. search needs)
+    (λ c. search needs)
     loop-again
     returns-2)

@@ -17,14 +17,10 @@ Inv-loop row start span k₀ k = (k ≤ span) × NoneBelow k (holes (codesOf row
 abbrev μ-loop : tie.MeasureT-loop
 μ-loop row start span k₀ k = span - k
 
-calls-start-requires : tie.Need-calls-start-requires Inv-loop μ-loop
-calls-start-requires c κs = search needs
-
-calls-span-requires : tie.Need-calls-span-requires Inv-loop μ-loop
-calls-span-requires c κs = search needs
-
 loop-holds : tie.Need-loop-holds Inv-loop μ-loop
-loop-holds c = (search needs, none-yet (holes (codesOf (c .before .before .before .args .row .now)) (c .before .calls-start .result)))
+loop-holds c =
+    let start-step = c .before .before .before in
+    (search needs, none-yet (holes (codesOf (start-step .args .row .now)) (c .before .calls-start .result)))
 
 add-byte : tie.Need-add-byte Inv-loop μ-loop
 add-byte c =
@@ -33,21 +29,12 @@ add-byte c =
     let w = span-fits (length row) (codesOf row) _ _ (b .before .calls-start .ensures) (b .calls-span .ensures) in
     omega arith
 
-byte-requires : tie.Need-byte-requires Inv-loop μ-loop
-byte-requires c κs = search needs
-
 returns : tie.Need-returns Inv-loop μ-loop
 returns c =
     let b = c .before .before .before .before in
     let row = b .before .before .before .args .row .now in
     let l = c .before .before .before .loop in
     gap-hit (length row) (codesOf row) _ _ (b .before .calls-start .ensures) (b .calls-span .ensures) (l .k) (omega arith) (sym (c .before .byte .ensures) ∙ c .if1 .taken)
-
-add-k : tie.Need-add-k Inv-loop μ-loop
-add-k c = search needs
-
-loop-less : tie.Need-loop-less Inv-loop μ-loop
-loop-less c = search needs
 
 loop-again : tie.Need-loop-again Inv-loop μ-loop
 loop-again c =
@@ -70,13 +57,13 @@ is-gapped-spec =
     (tie.spec
     Inv-loop
     μ-loop
-    calls-start-requires
-    calls-span-requires
+    (λ c κs. search needs)
+    (λ c κs. search needs)
     loop-holds
     add-byte
-    byte-requires
+    (λ c κs. search needs)
     returns
-    add-k
-    loop-less
+    (λ c. search needs)
+    (λ c. search needs)
     loop-again
     returns-2)

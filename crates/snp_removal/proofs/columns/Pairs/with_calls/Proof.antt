@@ -6,19 +6,15 @@ use Rattle.snp_removal.proofs.PairLaws.{one-letter, two-letters, no-cal
 use Rattle.snp_removal.proofs.columns.Pairs.with_calls.Statement.{statement}
 use Rattle.snp_removal.proofs.columns.Pairs.with_calls.Tie as tie
 
-is-call-requires : tie.Need-is-call-requires
-is-call-requires c κs = search needs
-
-is-call-requires-2 : tie.Need-is-call-requires-2
-is-call-requires-2 c κs = search needs
-
 returns : tie.Need-returns
 returns c =
-    one-letter _ _ _ (sym (c .before .before .before .before .is-call .ensures) ∙ c .before .before .before .if1 .taken) (sym (c .before .before .is-call2 .ensures) ∙ c .before .if2 .taken) (c .if3 .taken)
+    let is-call = c .before .before .before .before .is-call in
+    one-letter _ _ _ (sym (is-call .ensures) ∙ c .before .before .before .if1 .taken) (sym (c .before .before .is-call2 .ensures) ∙ c .before .if2 .taken) (c .if3 .taken)
 
 returns-2 : tie.Need-returns-2
 returns-2 c =
-    two-letters _ _ _ (sym (c .before .before .before .before .is-call .ensures) ∙ c .before .before .before .if1 .taken) (sym (c .before .before .is-call2 .ensures) ∙ c .before .if2 .taken) (c .if3 .left)
+    let is-call = c .before .before .before .before .is-call in
+    two-letters _ _ _ (sym (is-call .ensures) ∙ c .before .before .before .if1 .taken) (sym (c .before .before .is-call2 .ensures) ∙ c .before .if2 .taken) (c .if3 .left)
 
 returns-3 : tie.Need-returns-3
 returns-3 c = no-call _ _ _ (second-hole _ _ (sym (c .before .is-call2 .ensures) ∙ c .if2 .left))
@@ -28,4 +24,4 @@ returns-4 c = no-call _ _ _ (first-hole _ _ (sym (c .before .is-call .ensures) �
 
 pub with-calls-spec : {M : Type 1} → statement M
 with-calls-spec =
-    tie.close (tie.spec is-call-requires is-call-requires-2 returns returns-2 returns-3 returns-4)
+    tie.close (tie.spec (λ c κs. search needs) (λ c κs. search needs) returns returns-2 returns-3 returns-4)
