@@ -4,13 +4,13 @@ ghost use Prim.Native.Nat.{_≤_};
 ghost use Rattle.records.specs.Outcome.{outcomeOf};
 ghost use Rattle.conflicts.specs.Services.{unpackLeaves, packLeaves, findLeaves, checkLeaves, snpRemovalLeaves, fragmentRemovalLeaves, correctionsLeaves};
 ghost use Rattle.conflicts.specs.Host.{hostNumber, hostCode, hostOutcome, hostRead, HostFits};
-use least_sets::least_corrections;
-use least_sets::least_fragment_removal;
-use least_sets::least_snp_removal;
+use correcting::least_corrections;
 use packing::pack;
 use packing::unpack;
 use records::Outcome;
 use records::position_of;
+use removals::least_fragment_removal;
+use removals::least_snp_removal;
 use verdicts::check;
 
 // A count as it is, a refusal as base × number + place.

@@ -1,3 +1,4 @@
 pub mod CellLaws
 pub mod AlikeLaws
 pub mod TableLaws
+pub mod KeptLaws

@@ -1,0 +1,190 @@
+-- C over the cell matrix is C over the table's bytes; what C returns and leaves.
+-- Assumes nothing.
+use mathlib.Core.Path.{_≡_, refl, sym, ap, ap₂, _∙_}
+use mathlib.Core.Bool.{Bool}
+use mathlib.Core.List.{List, [], _∷_, _++_}
+use Prim.Native.Nat.{ℕ, zero, suc, _+_, _*_, _≤_, _<_}
+use native.Mathlib.Nat.{lt-of-lt-of-le}
+use native.Mathlib.Omega.{arith}
+use lib.Dec.{lit≤}
+use lib.ListN.{length, getD, replicate}
+use Rattle.below.specs.Below.{firstBelow, concat, _<?_}
+use Rattle.records.specs.Record.{codeAt}
+use Rattle.records.specs.Table.{fragments, recordAt}
+use Rattle.records.specs.Outcome.{Verdict, accepted, refused}
+use Rattle.records.specs.Rules.{decide}
+use Rattle.below.proofs.BelowLaws.{length-tab, firstBelow-le}
+use Rattle.below.proofs.RowLaws.{tab-ext}
+use Rattle.records.proofs.RuleLaws.{stage-last, stages-kept, stages-refused}
+use Rattle.records.proofs.PackLaws.{sound-fits}
+use Rattle.records.proofs.AcceptedLaws.{whole-records, accepted-sound, sized-count, sized-n, sized-m}
+use Rattle.conflicts.specs.Choice.{keepAll}
+use Rattle.conflicts.specs.Grid.{Grid, gridOf, matrixGrid, withCells, depth}
+use Rattle.conflicts.specs.Corrections.{cost, leastCostSides, correctedCell, corrected, changedCells}
+use Rattle.conflicts.specs.Answer.{answer, correctedGrid, correctionAnswer, correctedTable}
+use Rattle.conflicts.specs.Services.{written, workAfter, depthRules, correctionRules, correctionsLeaves, lentStages, correctionStages}
+use Rattle.conflicts.proofs.SameLaws.{answer-cells}
+use Rattle.conflicts.proofs.LeastCorrections.{least-length, least-on}
+use Rattle.conflicts.proofs.CorrectedTableLaws.{rewritten-same, corrected-small}
+use Rattle.conflicts.proofs.CorrectionsMinimality.{changed-number, corrections-accepted}
+use Rattle.conflicts.proofs.DeepLaws.{deep-refused, deep-kept}
+use Rattle.matrix.specs.Algorithm.Cells.{tableCells, MarkedMatrix}
+use Rattle.matrix.proofs.TableLaws.{cells-same, cells-cost, cells-leastCostSides, cells-depth, cells-correctionAnswer}
+use Rattle.matrix.proofs.AlikeLaws.{correctedCell-cells}
+use Rattle.corrections.specs.Algorithm.Columns.{Shallow}
+use Rattle.rewriting.specs.Algorithm.Depth.{firstDeep}
+use Rattle.rewriting.specs.Algorithm.Letters.{OnSides, correctedCells}
+use Rattle.rewriting.proofs.DepthLaws.{first-deep, first-none}
+use Rattle.corrections.proofs.CoverLaws.{not-deep}
+use Rattle.rewriting.proofs.LetterLaws.{corrected-cell, corrected-two-bits}
+use Rattle.records.specs.Algorithm.Kept.{SizesKept, RecordsKept}
+use Rattle.correcting.specs.Algorithm.Stages.{CorrectionKept}
+use Rattle.correcting.specs.Meanings.{CorrectionSays}
+use Rattle.rewriting.specs.Algorithm.Rewriting.{rowIn, TwoBits, rewrittenTable}
+use Rattle.conflicts.proofs.SideLaws.{all-length}
+use Rattle.matrix.proofs.KeptLaws.{few, grid-is, table-gapless}
+
+first-same : (n : ℕ) (p q : ℕ → Bool) → ((c : ℕ) → c < n → p c ≡ q c) → firstBelow n p ≡ firstBelow n q
+unfolding firstBelow
+first-same zero p q h = refl
+first-same (suc n) p q h = rw (first-same n p q (λ c l. h c (omega arith)), h n (omega arith))
+
+-- rule 12 is kept where the search for its column ends past the last one
+pub shallow-columns : (m n : ℕ) (cells : List ℕ) {deep : ℕ} → deep ≡ firstDeep (matrixGrid m n cells) → n ≤ deep → firstDeep (matrixGrid m n cells) ≡ n
+unfolding firstDeep matrixGrid
+shallow-columns m n cells e h = let l = firstBelow-le n (λ c. 8 <? depth (matrixGrid m n cells) c) in omega arith
+
+-- ---- the matrix and the bytes
+
+module _ {n m : ℕ} {table cells : List ℕ} (sized : SizesKept n m table) (kept : RecordsKept n table) (same : cells ≡ tableCells n table) where
+  abbrev g : Grid
+  g = matrixGrid m n cells
+
+  -- rule 12's column
+  pub table-deep : firstDeep (matrixGrid m n cells) ≡ firstDeep (gridOf n table)
+  unfolding firstDeep matrixGrid gridOf
+  table-deep =
+      ap firstDeep (grid-is sized kept same)
+      ∙ first-same n _ _ (λ c h. ap (λ (x : ℕ). 8 <? x) (cells-depth n table (sized-n sized) (few sized kept same) c h))
+
+  -- no column is too deep
+  pub table-shallow : firstDeep (matrixGrid m n cells) ≡ n → Shallow (matrixGrid m n cells)
+  unfolding matrixGrid
+  table-shallow e = let w = table-gapless sized kept same in not-deep g (w .no-gap) (w .codes) (first-none g e)
+
+  -- C's number
+  pub table-count : {r : ℕ} → r ≡ cost 2 (matrixGrid m n cells) (leastCostSides 2 (matrixGrid m n cells)) → r ≡ changedCells (gridOf n table) (gridOf n (correctedTable n table))
+  table-count e =
+      e
+      ∙ ap (λ (h : Grid). cost 2 h (leastCostSides 2 h)) (grid-is sized kept same)
+      ∙ cells-cost n table (sized-n sized) (few sized kept same) 2 _
+      ∙ ap (cost 2 (gridOf n table)) (cells-leastCostSides n table (sized-n sized) (few sized kept same) 2)
+      ∙ sym (changed-number n table (whole-records n table _ _ (sized .kept)))
+
+  module _ {sides : List ℕ} (least : sides ≡ leastCostSides 2 (matrixGrid m n cells)) where
+    pub table-sides : OnSides m sides
+    unfolding matrixGrid
+    table-sides = record { size = ap length least ∙ least-length 2 g (lit≤ tt); on = λ i h. rw least (least-on 2 g (lit≤ tt) i h) }
+
+    module _ {fixed : List ℕ} (turned : fixed ≡ correctedCells m n cells sides) where
+      fixed-cell : (i c : ℕ) → i < m → c < n → getD fixed (i * 128 + c) 0 ≡ correctedCell (matrixGrid m n cells) sides i c
+      fixed-cell i c hi hc = ap (λ (l : List ℕ). getD l (i * 128 + c) 0) turned ∙ corrected-cell m n cells sides (sized-m sized) (sized-n sized) i c hi hc
+
+      pub table-two-bits : TwoBits fixed
+      unfolding matrixGrid corrected withCells
+      table-two-bits = record {
+        small = λ k. rw turned (corrected-two-bits m n cells sides (sized-m sized) (sized-n sized)
+            (λ i c hi hc. corrected-small g sides i c (let x = table-gapless sized kept same .codes i c hi hc in omega arith)) k);
+      }
+
+      -- the answer is written from a whole matrix
+      pub table-phasable : {cols : List ℕ} → cols ≡ keepAll n → MarkedMatrix m n fixed cols sides
+      unfolding correctedCells
+      table-phasable all = record {
+        few = sized-m sized;
+        narrow = sized-n sized;
+        cells-long = ap length turned ∙ length-tab 16384 _;
+        columns = ap length all ∙ all-length n;
+        fragments = table-sides .size;
+      }
+
+      -- C's answer
+      pub table-correction : {cols after : List ℕ} → cols ≡ keepAll n → after ≡ answer (matrixGrid m n fixed) cols sides → after ≡ correctionAnswer (gridOf n table)
+      unfolding correctionAnswer correctedGrid corrected withCells matrixGrid
+      table-correction {cols} {after} all e =
+          e
+          ∙ answer-cells (matrixGrid m n fixed) (correctedCell g sides) fixed-cell cols sides
+          ∙ ap₂ (λ (c s : List ℕ). answer (corrected g s) c s) all least
+          ∙ ap correctionAnswer (grid-is sized kept same)
+          ∙ cells-correctionAnswer n table (sized-n sized) (few sized kept same)
+
+      -- a corrected cell, read from the bytes
+      fixed-code : (i c : ℕ) → i < fragments table → c < n → getD fixed (i * 128 + c) 0 ≡ correctedGrid (gridOf n table) .cell i c
+      unfolding correctedGrid corrected withCells matrixGrid gridOf
+      fixed-code i c hi hc =
+          let bytes = matrixGrid (fragments table) n (tableCells n table) in
+          fixed-cell i c (let e = sized-count sized in omega arith) hc
+          ∙ ap₂ (λ (h : Grid) (s : List ℕ). correctedCell h s i c) (grid-is sized kept same) (least ∙ ap (leastCostSides 2) (grid-is sized kept same))
+          ∙ correctedCell-cells bytes (λ i c. codeAt (recordAt table i) c) (cells-same n table (sized-n sized) (few sized kept same)) (leastCostSides 2 bytes) i c hi hc
+          ∙ ap (λ (s : List ℕ). correctedCell (gridOf n table) s i c) (cells-leastCostSides n table (sized-n sized) (few sized kept same) 2)
+
+      -- C's table
+      pub table-records : {after : List ℕ} → after ≡ rewrittenTable table fixed → after ≡ correctedTable n table
+      unfolding rewrittenTable correctedTable rowIn
+      table-records e =
+          e
+          ∙ ap concat (tab-ext (fragments table) _ _ λ i hi.
+          rewritten-same (recordAt table i) _ _ λ c from to. fixed-code i c hi (lt-of-lt-of-le to (sound-fits n (recordAt table i) (accepted-sound n table _ _ (kept .kept) i hi))))
+
+-- ---- what C returns and leaves
+
+module _ (n : ℕ) (table lent output work : List ℕ) where
+  -- what C's contract says: its outcome, its work, its answer and its table, in this order
+  abbrev pub CorrectionLeft : Verdict → List ℕ → List ℕ → List ℕ → Type 0
+  CorrectionLeft v w a t =
+      (v ≡ correctionsLeaves n table lent output work .outcome)
+      × ((w ≡ correctionsLeaves n table lent output work .work)
+      × ((a ≡ correctionsLeaves n table lent output work .answer) × (t ≡ correctionsLeaves n table lent output work .table)))
+
+  left-at : (v : Verdict) → correctionsLeaves n table lent output work .outcome ≡ v
+      → CorrectionLeft v (workAfter v work) (written v (correctionAnswer (gridOf n table)) lent) (written v (correctedTable n table) output)
+  unfolding correctionsLeaves
+  left-at v e = (
+    sym e,
+    (
+      sym (ap (λ (v : Verdict). workAfter v work) e),
+      (sym (ap (λ (v : Verdict). written v (correctionAnswer (gridOf n table)) lent) e), sym (ap (λ (v : Verdict). written v (correctedTable n table) output) e)),
+    ),
+  )
+
+  -- a rule but 12 is broken
+  pub correction-refuses : (number place : ℕ) → decide (concat (correctionStages n table lent output work)) (accepted (fragments table)) ≡ refused number place
+      → CorrectionLeft (refused number place) work lent output
+  unfolding correctionsLeaves correctionRules
+  correction-refuses number place e = left-at _ (stages-refused (correctionStages n table lent output work) _ _ _ number place e)
+
+  module _ {m : ℕ} (kept : CorrectionKept n m table lent output work) where
+    -- 12 decides
+    after-stages : (v : Verdict) → decide (correctionRules n table lent output work) v ≡ decide (depthRules (gridOf n table)) v
+    unfolding correctionRules
+    after-stages v = stages-kept (correctionStages n table lent output work) _ _ v m (kept .kept) ∙ stage-last _ v
+
+    pub correction-deep : {deep : ℕ} → deep ≡ firstDeep (gridOf n table) → deep < n → CorrectionLeft (refused 12 deep) work lent output
+    unfolding correctionsLeaves gridOf
+    correction-deep e h = left-at _ (after-stages _ ∙ deep-refused (gridOf n table) _ (first-deep (gridOf n table) (rw (sym e) h)) ∙ ap (refused 12) (sym e))
+
+    -- every rule is kept, and the work is done
+    pub correction-accepts : firstDeep (gridOf n table) ≡ n → {k : ℕ} {w a t : List ℕ} → k ≡ changedCells (gridOf n table) (gridOf n (correctedTable n table)) → w ≡ replicate (length work) 0
+        → a ≡ correctionAnswer (gridOf n table) → t ≡ correctedTable n table → CorrectionLeft (accepted k) w a t
+    unfolding correctionsLeaves gridOf
+    correction-accepts e i j l o =
+        let left = left-at _ (after-stages _ ∙ deep-kept (gridOf n table) _ (first-none (gridOf n table) e)) in
+        (ap accepted i ∙ left .0, (j ∙ left .1 .0, (l ∙ left .1 .1 .0, o ∙ left .1 .1 .1)))
+
+  -- what the contract's equations mean. A slice's bytes are below 256
+  pub correction-means : ((j : ℕ) → j < length table → getD table j 0 < 256) → {v : Verdict} {w a t : List ℕ} → CorrectionLeft v w a t
+      → (v ≡ correctionsLeaves n table lent output work .outcome)
+      × ((w ≡ correctionsLeaves n table lent output work .work)
+      × ((a ≡ correctionsLeaves n table lent output work .answer) × ((t ≡ correctionsLeaves n table lent output work .table) × CorrectionSays n table a t v)))
+  correction-means bytes x =
+      (x .0, (x .1 .0, (x .1 .1 .0, (x .1 .1 .1, record { least = λ k e. rw (x .1 .1 .0, x .1 .1 .1) (corrections-accepted n table lent output work k (sym (x .0) ∙ e) bytes .0) }))))

@@ -1,0 +1,154 @@
+// C: the fewest calls to correct.
+ghost use mathlib.Core.Path.{_≡_};
+ghost use Prim.Native.Nat.{_*_};
+ghost use lib.ListN.{length};
+ghost use Rattle.records.specs.Outcome.{outcomeOf};
+ghost use Rattle.conflicts.specs.Choice.{keepAll};
+ghost use Rattle.conflicts.specs.Grid.{gridOf, matrixGrid};
+ghost use Rattle.conflicts.specs.Corrections.{changedCells};
+ghost use Rattle.conflicts.specs.Answer.{answerSize, correctionAnswer, correctedTable};
+ghost use Rattle.conflicts.specs.Services.{correctionsLeaves};
+ghost use Rattle.matrix.specs.Algorithm.Cells.{tableCells};
+ghost use Rattle.rewriting.specs.Algorithm.Depth.{firstDeep};
+ghost use Rattle.records.specs.Algorithm.Kept.{SizesKept, RecordsKept};
+ghost use Rattle.correcting.specs.Algorithm.Stages.{CorrectionKept};
+ghost use Rattle.correcting.specs.Meanings.{CorrectionSays};
+use corrections::least_cost_sides;
+use matrix::all_kept;
+use matrix::blank_cells;
+use matrix::fill_matrix;
+use phasing::fill_answer;
+use ranks::table;
+use records::Outcome;
+use rewriting::correct_cells;
+use rewriting::fill_records;
+use rewriting::first_deep;
+use stages::correction_fault;
+
+// Settles the sides, and writes the answer and the records after correction. The sides and the corrected cells are scratch.
+fn correct_calls(
+    n: usize,
+    m: usize,
+    table: &[u8],
+    cells: &[u8],
+    cols: &[u8],
+    sides: &mut [u8],
+    fixed: &mut [u8],
+    answer: &mut [u8],
+    corrected: &mut [u8],
+) -> usize
+    requires { ⌜ SizesKept n m (now table) × RecordsKept n (now table) ⌝ }
+    requires { ⌜ (now cells ≡ tableCells n (now table)) × (now cols ≡ keepAll n) ⌝ }
+    requires { ⌜ firstDeep (matrixGrid m n (now cells)) ≡ n ⌝ }
+    requires { ⌜ (length (now sides) ≡ m) × (length (now fixed) ≡ 16384) ⌝ }
+    requires { ⌜ (length (now answer) ≡ answerSize m n) × (length (now corrected) ≡ 32 * m) ⌝ }
+    ensures count { λ r. ⌜ r ≡ changedCells (gridOf n (now (table .entry))) (gridOf n (correctedTable n (now (table .entry)))) ⌝ }
+    ensures answer { λ _. ⌜ now (answer .exit) ≡ correctionAnswer (gridOf n (now (table .entry))) ⌝ }
+    ensures corrected { λ _. ⌜ now (corrected .exit) ≡ correctedTable n (now (table .entry)) ⌝ }
+{
+    let count = least_cost_sides(m, n, cells, sides);
+    correct_cells(m, n, cells, sides, fixed);
+    fill_answer(m, n, fixed, cols, sides, answer);
+    fill_records(table, fixed, corrected);
+    count
+}
+
+// The number of corrected calls, the answer and the corrected records, of a table without a column that is too deep.
+fn correct_table(
+    n: usize,
+    m: usize,
+    table: &[u8],
+    cells: &[u8],
+    answer: &mut [u8],
+    corrected: &mut [u8],
+) -> usize
+    requires { ⌜ SizesKept n m (now table) × RecordsKept n (now table) ⌝ }
+    requires { ⌜ now cells ≡ tableCells n (now table) ⌝ }
+    requires { ⌜ firstDeep (matrixGrid m n (now cells)) ≡ n ⌝ }
+    requires { ⌜ (length (now answer) ≡ answerSize m n) × (length (now corrected) ≡ 32 * m) ⌝ }
+    ensures count { λ r. ⌜ r ≡ changedCells (gridOf n (now (table .entry))) (gridOf n (correctedTable n (now (table .entry)))) ⌝ }
+    ensures answer { λ _. ⌜ now (answer .exit) ≡ correctionAnswer (gridOf n (now (table .entry))) ⌝ }
+    ensures corrected { λ _. ⌜ now (corrected .exit) ≡ correctedTable n (now (table .entry)) ⌝ }
+{
+    let cols = all_kept();
+    let mut sides = all_kept();
+    let mut fixed = blank_cells();
+    correct_calls(
+        n,
+        m,
+        table,
+        cells,
+        &cols[0..n],
+        &mut sides[0..m],
+        &mut fixed,
+        answer,
+        corrected,
+    )
+}
+
+// C over the cell matrix, once every other rule is kept: 12, or the work.
+fn correct_shallow(
+    n: usize,
+    m: usize,
+    table: &[u8],
+    cells: &[u8],
+    work: &mut [u16],
+    answer: &mut [u8],
+    corrected: &mut [u8],
+) -> Outcome
+    requires { ⌜ CorrectionKept n m (now table) (now answer) (now corrected) (now work) ⌝ }
+    requires { ⌜ now cells ≡ tableCells n (now table) ⌝ }
+    ensures outcome { λ r. ⌜ outcomeOf r ≡ correctionsLeaves n (now (table .entry)) (now (answer .entry)) (now (corrected .entry)) (now (work .entry)) .outcome ⌝ }
+    ensures work { λ _. ⌜ now (work .exit) ≡ correctionsLeaves n (now (table .entry)) (now (answer .entry)) (now (corrected .entry)) (now (work .entry)) .work ⌝ }
+    ensures answer { λ _. ⌜ now (answer .exit) ≡ correctionsLeaves n (now (table .entry)) (now (answer .entry)) (now (corrected .entry)) (now (work .entry)) .answer ⌝ }
+    ensures corrected { λ _. ⌜ now (corrected .exit) ≡ correctionsLeaves n (now (table .entry)) (now (answer .entry)) (now (corrected .entry)) (now (work .entry)) .table ⌝ }
+{
+    let deep = first_deep(m, n, cells);
+    if deep < n {
+        return Outcome::Refused(12, deep);
+    }
+    let count = correct_table(n, m, table, cells, answer, corrected);
+    table::clear(work);
+    Outcome::Accepted(count)
+}
+
+// C once every rule but 12 is kept.
+fn correct_kept(
+    n: usize,
+    m: usize,
+    table: &[u8],
+    work: &mut [u16],
+    answer: &mut [u8],
+    corrected: &mut [u8],
+) -> Outcome
+    requires { ⌜ CorrectionKept n m (now table) (now answer) (now corrected) (now work) ⌝ }
+    ensures outcome { λ r. ⌜ outcomeOf r ≡ correctionsLeaves n (now (table .entry)) (now (answer .entry)) (now (corrected .entry)) (now (work .entry)) .outcome ⌝ }
+    ensures work { λ _. ⌜ now (work .exit) ≡ correctionsLeaves n (now (table .entry)) (now (answer .entry)) (now (corrected .entry)) (now (work .entry)) .work ⌝ }
+    ensures answer { λ _. ⌜ now (answer .exit) ≡ correctionsLeaves n (now (table .entry)) (now (answer .entry)) (now (corrected .entry)) (now (work .entry)) .answer ⌝ }
+    ensures corrected { λ _. ⌜ now (corrected .exit) ≡ correctionsLeaves n (now (table .entry)) (now (answer .entry)) (now (corrected .entry)) (now (work .entry)) .table ⌝ }
+{
+    let mut cells = blank_cells();
+    fill_matrix(n, table, &mut cells);
+    correct_shallow(n, m, table, &cells, work, answer, corrected)
+}
+
+// Accepted with the number of corrected calls, the answer's 3n + 2m bytes, the 32m bytes of the corrected records, and the work all zero. A refusal writes nothing. Takes 59 KB of stack.
+pub fn least_corrections(
+    n: usize,
+    table: &[u8],
+    work: &mut [u16],
+    answer: &mut [u8],
+    corrected: &mut [u8],
+) -> Outcome
+    ensures outcome { λ r. ⌜ outcomeOf r ≡ correctionsLeaves n (now (table .entry)) (now (answer .entry)) (now (corrected .entry)) (now (work .entry)) .outcome ⌝ }
+    ensures work { λ _. ⌜ now (work .exit) ≡ correctionsLeaves n (now (table .entry)) (now (answer .entry)) (now (corrected .entry)) (now (work .entry)) .work ⌝ }
+    ensures answer { λ _. ⌜ now (answer .exit) ≡ correctionsLeaves n (now (table .entry)) (now (answer .entry)) (now (corrected .entry)) (now (work .entry)) .answer ⌝ }
+    ensures corrected { λ _. ⌜ now (corrected .exit) ≡ correctionsLeaves n (now (table .entry)) (now (answer .entry)) (now (corrected .entry)) (now (work .entry)) .table ⌝ }
+    ensures meaning { λ r. ⌜ CorrectionSays n (now (table .entry)) (now (answer .exit)) (now (corrected .exit)) (outcomeOf r) ⌝ }
+{
+    let fault = correction_fault(n, table, work, answer, corrected);
+    match fault {
+        Outcome::Refused(number, place) => Outcome::Refused(number, place),
+        Outcome::Accepted(m) => correct_kept(n, m, table, work, answer, corrected),
+    }
+}

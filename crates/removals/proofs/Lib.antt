@@ -1,0 +1,2 @@
+pub mod RemovalLaws
+pub mod TableRemovalLaws

@@ -1,0 +1,84 @@
+-- S and F over the cell matrix are S and F over the table's bytes.
+-- Assumes nothing.
+use mathlib.Core.Path.{_≡_, sym, ap, ap₂, subst, _∙_}
+use mathlib.Core.Bool.{Bool, true}
+use mathlib.Core.List.{List}
+use Prim.Native.Nat.{ℕ, _≤_, _<_}
+use native.Mathlib.Omega.{arith}
+use lib.Dec.{T}
+use lib.ListN.{length}
+use Rattle.below.specs.Below.{if_then_else_}
+use Rattle.records.specs.Table.{fragments}
+use Rattle.records.specs.Outcome.{Verdict}
+use Rattle.below.proofs.BelowLaws.{is-true}
+use Rattle.records.proofs.AcceptedLaws.{sized-count, sized-n}
+use Rattle.conflicts.specs.Choice.{keepAll, zeros}
+use Rattle.conflicts.specs.Grid.{gridOf, matrixGrid}
+use Rattle.conflicts.specs.Sides.{errorFree, firstSides}
+use Rattle.conflicts.specs.Removal.{snpKeepMarks, fragmentKeepMarks}
+use Rattle.conflicts.specs.Answer.{answer, snpAnswer, fragmentAnswer}
+use Rattle.conflicts.specs.Services.{snpRemovalLeaves, fragmentRemovalLeaves}
+use Rattle.conflicts.proofs.Minimality.{snp-free, fragments-free}
+use Rattle.conflicts.proofs.Outcomes.{snp-accepted, fragment-accepted}
+use Rattle.matrix.specs.Algorithm.Cells.{tableCells}
+use Rattle.phasing.specs.Algorithm.Answer.{AnswerFound}
+use Rattle.matrix.proofs.TableLaws.{cells-snpKeepMarks, cells-fragmentKeepMarks}
+use Rattle.phasing.proofs.TableLaws.{cells-found}
+use Rattle.records.specs.Algorithm.Kept.{SizesKept, RecordsKept}
+use Rattle.removals.specs.Meanings.{SnpSays, FragmentSays}
+use Rattle.matrix.proofs.KeptLaws.{few, grid-is}
+use Rattle.removals.proofs.RemovalLaws.{Leaves, removalVerdict}
+
+module _ (n : ℕ) (table : List ℕ) (narrow : n ≤ 128) (few : fragments table ≤ 128) (kept : RecordsKept n table) where
+  -- phasing what is error-free writes the answer of its first lawful sides
+  bytes-phased : {keep frags before after : List ℕ} {ok : Bool} (cols rows : List ℕ) → keep ≡ cols → frags ≡ rows → T (errorFree 2 (gridOf n table) cols rows)
+      → AnswerFound (gridOf n table) keep frags ok before after → after ≡ answer (gridOf n table) cols (firstSides 2 (gridOf n table) cols rows)
+  bytes-phased {keep} {frags} {before} {after} {ok} cols rows e f t found =
+      let g = gridOf n table in
+      let free : ok ≡ true = found .verdict ∙ ap₂ (errorFree 2 g) e f ∙ sym (is-true _ t) in
+      found .written
+      ∙ ap (λ (b : Bool). if b then answer g keep (firstSides 2 g keep frags) else before) free
+      ∙ ap₂ (λ (k l : List ℕ). answer g k (firstSides 2 g k l)) e f
+
+  -- the phasing of S's columns is S's answer, and that of F's fragments F's
+  bytes-answer : {keep frags before after : List ℕ} {ok : Bool} → keep ≡ snpKeepMarks (gridOf n table) → frags ≡ keepAll (fragments table)
+      → AnswerFound (gridOf n table) keep frags ok before after → after ≡ snpAnswer (gridOf n table)
+  unfolding snpAnswer gridOf
+  bytes-answer e f found = bytes-phased _ _ e f (snp-free (gridOf n table)) found
+
+  bytes-fragments : {keep frags before after : List ℕ} {ok : Bool} → keep ≡ keepAll n → frags ≡ fragmentKeepMarks (gridOf n table)
+      → AnswerFound (gridOf n table) keep frags ok before after → after ≡ fragmentAnswer (gridOf n table)
+  unfolding fragmentAnswer gridOf
+  bytes-fragments e f found = bytes-phased _ _ e f (fragments-free (gridOf n table)) found
+
+module _ {n m : ℕ} {table cells : List ℕ} (sized : SizesKept n m table) (kept : RecordsKept n table) (same : cells ≡ tableCells n table) where
+  pub table-marks : snpKeepMarks (matrixGrid m n cells) ≡ snpKeepMarks (gridOf n table)
+  table-marks = ap snpKeepMarks (grid-is sized kept same) ∙ cells-snpKeepMarks n table (sized-n sized) (few sized kept same)
+
+  pub table-answer : {keep frags before after : List ℕ} {ok : Bool} → keep ≡ snpKeepMarks (matrixGrid m n cells) → frags ≡ keepAll m
+      → AnswerFound (matrixGrid m n cells) keep frags ok before after → after ≡ snpAnswer (gridOf n table)
+  table-answer {keep} {frags} {before} {after} {ok} e f found =
+      bytes-answer n table (sized-n sized) (few sized kept same) kept (e ∙ table-marks) (f ∙ ap keepAll (sym (sized-count sized)))
+      (cells-found n table (sized-n sized) (few sized kept same) (subst (λ g. AnswerFound g keep frags ok before after) (grid-is sized kept same) found))
+
+  pub table-fragments : fragmentKeepMarks (matrixGrid m n cells) ≡ fragmentKeepMarks (gridOf n table)
+  table-fragments = ap fragmentKeepMarks (grid-is sized kept same) ∙ cells-fragmentKeepMarks n table (sized-n sized) (few sized kept same)
+
+  pub table-fragment-answer : {keep frags before after : List ℕ} {ok : Bool} → keep ≡ keepAll n → frags ≡ fragmentKeepMarks (matrixGrid m n cells)
+      → AnswerFound (matrixGrid m n cells) keep frags ok before after → after ≡ fragmentAnswer (gridOf n table)
+  table-fragment-answer {keep} {frags} {before} {after} {ok} e f found =
+      bytes-fragments n table (sized-n sized) (few sized kept same) kept e (f ∙ table-fragments)
+      (cells-found n table (sized-n sized) (few sized kept same) (subst (λ g. AnswerFound g keep frags ok before after) (grid-is sized kept same) found))
+
+-- what a removal leaves, for S's count and answer, is what S leaves, and it means what demand 3 says
+module _ (n : ℕ) (table lent work : List ℕ) {v : Verdict} {w a : List ℕ} where
+  pub snp-leaves : Leaves n table lent work (zeros (snpKeepMarks (gridOf n table))) (snpAnswer (gridOf n table)) v w a
+      → (v ≡ snpRemovalLeaves n table lent work .outcome) × ((w ≡ snpRemovalLeaves n table lent work .work) × ((a ≡ snpRemovalLeaves n table lent work .answer) × SnpSays n table a v))
+  unfolding snpRemovalLeaves removalVerdict
+  snp-leaves x = (x .0, (x .1 .0, (x .1 .1, record { least = λ k e. rw (x .1 .1) (snp-accepted n table lent work k (sym (x .0) ∙ e) .0) })))
+
+  -- the same for F
+  pub fragment-leaves : Leaves n table lent work (zeros (fragmentKeepMarks (gridOf n table))) (fragmentAnswer (gridOf n table)) v w a
+      → (v ≡ fragmentRemovalLeaves n table lent work .outcome) × ((w ≡ fragmentRemovalLeaves n table lent work .work) × ((a ≡ fragmentRemovalLeaves n table lent work .answer) × FragmentSays n table a v))
+  unfolding fragmentRemovalLeaves removalVerdict
+  fragment-leaves x = (x .0, (x .1 .0, (x .1 .1, record { least = λ k e. rw (x .1 .1) (fragment-accepted n table lent work k (sym (x .0) ∙ e) .0) })))
