@@ -1,6 +1,6 @@
 -- The SNP matrix, and conflicts in it (paper 001, section 3; paper 01, "What the words mean").
 -- Assumes nothing.
-use Prim.Native.Nat.{ℕ, _+_, _*_}
+use Prim.Native.Nat.{ℕ}
 use mathlib.Core.Bool.{Bool}
 use mathlib.Core.List.{List}
 use lib.ListN.{length, getD}
@@ -19,10 +19,6 @@ pub record Grid : Type 0 where
 -- the matrix of a table with n columns, read from the table's bytes
 unfoldable pub gridOf : ℕ → List ℕ → Grid
 gridOf n table = record { m = fragments table; n = n; cell = λ i c. codeAt (recordAt table i) c }
-
--- the matrix of a flat list of cells, 128 to a fragment; it has at most 128 columns wherever it is used (`Matrix`)
-unfoldable pub matrixGrid : ℕ → ℕ → List ℕ → Grid
-matrixGrid m n cells = record { m = m; n = n; cell = λ i c. getD cells (i * 128 + c) 0 }
 
 -- a matrix of the same size with other cells
 unfoldable pub withCells : Grid → (ℕ → ℕ → ℕ) → Grid

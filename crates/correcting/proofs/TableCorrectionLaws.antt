@@ -19,7 +19,8 @@ use Rattle.records.proofs.RuleLaws.{stage-last, stages-kept, stages-refused}
 use Rattle.records.proofs.PackLaws.{sound-fits}
 use Rattle.records.proofs.AcceptedLaws.{whole-records, accepted-sound, sized-count, sized-n, sized-m}
 use Rattle.conflicts.specs.Choice.{keepAll}
-use Rattle.conflicts.specs.Grid.{Grid, gridOf, matrixGrid, withCells, depth}
+use Rattle.conflicts.specs.Grid.{Grid, gridOf, withCells, depth}
+use Rattle.matrix.specs.Algorithm.Matrix.{matrixGrid}
 use Rattle.conflicts.specs.Corrections.{cost, leastCostSides, correctedCell, corrected, changedCells}
 use Rattle.conflicts.specs.Answer.{answer, correctedGrid, correctionAnswer, correctedTable}
 use Rattle.conflicts.specs.Services.{written, workAfter, depthRules, correctionRules, correctionsLeaves, lentStages, correctionStages}

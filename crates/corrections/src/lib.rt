@@ -2,10 +2,9 @@
 use ranks::table;
 ghost use mathlib.Core.Path.{_≡_};
 ghost use lib.ListN.{length};
-ghost use Rattle.conflicts.specs.Grid.{matrixGrid};
+ghost use Rattle.matrix.specs.Algorithm.Matrix.{matrixGrid, Matrix};
 ghost use Rattle.conflicts.specs.Corrections.{cost, leastCostSides};
 ghost use Rattle.corrections.specs.Algorithm.Columns.{Shallow};
-ghost use Rattle.matrix.specs.Algorithm.Matrix.{Matrix};
 
 mod slots;
 mod spans;

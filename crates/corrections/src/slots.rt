@@ -2,10 +2,9 @@
 ghost use mathlib.Core.Path.{_≡_};
 ghost use Prim.Native.Nat.{_+_, _*_, _<_, _≤_};
 ghost use lib.ListN.{length};
-ghost use Rattle.conflicts.specs.Grid.{matrixGrid};
+ghost use Rattle.matrix.specs.Algorithm.Matrix.{matrixGrid, Matrix};
 ghost use Rattle.events.specs.Algorithm.Slots.{used, freeSlot};
 ghost use Rattle.corrections.specs.Algorithm.Columns.{Shallow, firstColumn, covers};
-ghost use Rattle.matrix.specs.Algorithm.Matrix.{Matrix};
 ghost use Rattle.below.specs.Below.{nth};
 ghost use Rattle.corrections.specs.Algorithm.Sweep.{hitSlot, Spanned, Granted, Slotted};
 

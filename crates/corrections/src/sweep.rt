@@ -6,7 +6,7 @@ ghost use mathlib.Core.Path.{_≡_};
 ghost use Prim.Native.Nat.{ℕ, _+_, _*_, _-_, _<_, _≤_, min};
 ghost use lib.ListN.{length};
 ghost use Rattle.below.specs.Below.{bit, tab, _==_, _and_};
-ghost use Rattle.conflicts.specs.Grid.{matrixGrid};
+ghost use Rattle.matrix.specs.Algorithm.Matrix.{matrixGrid, Matrix};
 ghost use Rattle.ranks.specs.Algorithm.Weight.{top, place, digitAt};
 ghost use Rattle.ranks.specs.Algorithm.Reading.{code, value};
 ghost use Rattle.ranks.specs.Algorithm.Tables.{at, Sweep};
@@ -14,7 +14,6 @@ ghost use Rattle.events.specs.Algorithm.Events.{eventsFrom, events, partOf};
 ghost use Rattle.events.specs.Algorithm.Weights.{sideWeight};
 ghost use Rattle.events.specs.Algorithm.Slots.{entered};
 ghost use Rattle.corrections.specs.Algorithm.Columns.{firstColumn};
-ghost use Rattle.matrix.specs.Algorithm.Matrix.{Matrix};
 ghost use Rattle.corrections.specs.Algorithm.Sweep.{Spanned, Slotted, Gathered, Ready, HoldsAll};
 ghost use Rattle.patterns.specs.Algorithm.Patterns.{Patterns, Alone, PatternRoom, PatternsRoom, enteredAt, slotCost};
 

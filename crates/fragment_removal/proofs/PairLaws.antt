@@ -8,7 +8,7 @@ use native.Mathlib.Nat.{le-refl}
 use native.Mathlib.Numerals.{add-one}
 use native.Mathlib.Decide.{ℕ-discrete}
 use native.Mathlib.Omega.{arith}
-use lib.ListN.{length, replicate}
+use lib.ListN.{length, replicate, length-replicate}
 use Rattle.below.specs.Below.{if_then_else_, bit, _<?_}
 use Rattle.below.proofs.BelowLaws.{if-ind, if-true, if-false, lt-<?, le-isnt, same-test, bit-marked, marked-bit}
 use Rattle.conflicts.specs.Choice.{marked}
@@ -20,8 +20,8 @@ use Rattle.ranks.specs.Algorithm.Reading.{code, value, SumFits}
 use Rattle.ranks.specs.Algorithm.Tables.{Sweep, Cleared}
 use Rattle.ranks.proofs.WeightLaws.{places-top, atMost-more}
 use Rattle.ranks.proofs.TableLaws.{parts-small, sweep-none, zeros-at}
-use Rattle.fragment_removal.specs.Algorithm.Fragments.{start, Ordered, Begins}
-use Rattle.fragment_removal.specs.Algorithm.Programme.{stateReach, mayJoin, furthest, chooseFragment, withFragment, leastFragmentWeight}
+use Rattle.fragment_order.specs.Algorithm.Fragments.{start, Ordered, Begins, stateReach, mayJoin}
+use Rattle.fragment_removal.specs.Algorithm.Programme.{furthest, chooseFragment, withFragment, leastFragmentWeight}
 use Rattle.fragment_removal.specs.Algorithm.Pairs.{pairs, flat, Fits, FragmentRoom, Rows, Made, HoldsFragments}
 use Rattle.fragment_removal.proofs.SumLaws.{permuted-sum, lastSum, last-first}
 use Rattle.fragment_removal.proofs.ProgrammeLaws.{one-removed, choose-small, programme-small}
@@ -194,6 +194,11 @@ begins-marks p n list b s h = rw (b .begins s h) (same-test (0 <? bit (p s)) (p 
 -- a table of zeros
 pub zeros-pairs : (before counts : List ℕ) → Cleared before counts → (h l : ℕ) → pairs counts (replicate 16641 0) (replicate 16641 0) h l ≡ 0
 zeros-pairs before counts e h l = subst (λ (x : List ℕ). pairs x (replicate 16641 0) (replicate 16641 0) h l ≡ 0) (sym (e .zeros)) (zeros-at (length before) 16641 16641 (h * 129 + l))
+
+-- a buffer of zeros
+pub cleared-as : {before new : List ℕ} (old : List ℕ) → Cleared before new → length new ≡ length old → new ≡ replicate (length old) 0
+cleared-as {before} old e same =
+    e .zeros ∙ ap (λ (x : ℕ). replicate {A = ℕ} x 0) (sym (length-replicate {A = ℕ} (length before) 0) ∙ ap length (sym (e .zeros)) ∙ same)
 
 module _ (g : Grid) (order : ℕ → ℕ) where
   -- no fragment yet

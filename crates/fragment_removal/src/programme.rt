@@ -1,5 +1,5 @@
 // The programme over the fragments that remain in the order, in place: one least weight for each pair of states (paper 001, section 5.2).
-use crate::fragments;
+use fragment_order::fill_agreements;
 use ranks::rank::Rank;
 use ranks::table;
 ghost use mathlib.Core.Path.{_≡_};
@@ -7,12 +7,11 @@ ghost use Prim.Native.Nat.{_+_, _*_, _-_, _<_, _≤_, min};
 ghost use lib.ListN.{length, replicate};
 ghost use Rattle.below.specs.Below.{if_then_else_, tab, nth};
 ghost use Rattle.conflicts.specs.Choice.{marked, zeros};
-ghost use Rattle.conflicts.specs.Grid.{matrixGrid};
+ghost use Rattle.matrix.specs.Algorithm.Matrix.{matrixGrid, Gapless};
 ghost use Rattle.conflicts.specs.Removal.{fragmentKeepMarks};
 ghost use Rattle.ranks.specs.Algorithm.Weight.{digitAt};
 ghost use Rattle.ranks.specs.Algorithm.Reading.{code, value};
-ghost use Rattle.ranks.specs.Algorithm.Tables.{at, Inside, Sweep, Cleared};
-ghost use Rattle.matrix.specs.Algorithm.Matrix.{Gapless};
+ghost use Rattle.ranks.specs.Algorithm.Tables.{at, Inside, Sweep};
 ghost use Rattle.fragment_removal.specs.Algorithm.Programme.{furthest, chooseFragment, withFragment};
 ghost use Rattle.fragment_removal.specs.Algorithm.Pairs.{pairs, flat, Prepared, PairPlaces, Fits, FragmentRoom, Made, HoldsFragments};
 
@@ -126,6 +125,13 @@ fn layer(
     }
 }
 
+// A number of a byte.
+fn wide(x: u8) -> usize
+    ensures { λ r. ⌜ r ≡ x ⌝ }
+{
+    x as usize
+}
+
 // One fragment more, before the last k of the order.
 fn extend(
     m: usize,
@@ -144,8 +150,8 @@ fn extend(
 {
     let i = m - 1 - k;
     let mut agrees = [0u8; 129];
-    fragments::fill_agreements(m, n, cells, order, i, &mut agrees);
-    let p = fragments::wide(order[i]);
+    fill_agreements(m, n, cells, order, i, &mut agrees);
+    let p = wide(order[i]);
     let out = Rank::single(1, p);
     layer(counts, highs, lows, &agrees, reaches, out, i);
 }

@@ -11,9 +11,8 @@ use Rattle.records.specs.Algorithm.Kept.{SizesKept, RecordsKept}
 use Rattle.records.proofs.AcceptedLaws.{accepted-sound, accepted-gapless, sized-count, sized-n, sized-m}
 use Rattle.records.proofs.PackLaws.{Sound}
 use Rattle.records.proofs.SoundLaws.{sound-row-small}
-use Rattle.conflicts.specs.Grid.{matrixGrid}
+use Rattle.matrix.specs.Algorithm.Matrix.{matrixGrid, Gapless, Matrix}
 use Rattle.conflicts.proofs.GapLaws.{gapless-table}
-use Rattle.matrix.specs.Algorithm.Matrix.{Gapless, Matrix}
 use Rattle.matrix.specs.Algorithm.Cells.{tableCells}
 use Rattle.matrix.proofs.CellLaws.{length-cells}
 use Rattle.matrix.proofs.TableLaws.{cells-same, cells-gapless}

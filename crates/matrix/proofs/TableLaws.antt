@@ -10,7 +10,8 @@ use Rattle.below.specs.Below.{if_then_else_, _<?_, _and_}
 use Rattle.records.specs.Record.{codeAt}
 use Rattle.records.specs.Table.{fragments, recordAt}
 use Rattle.below.proofs.BelowLaws.{both, if-true, lt-<?, getD-tab}
-use Rattle.conflicts.specs.Grid.{Grid, gridOf, matrixGrid, withCells, callsConflict, gapless, depth}
+use Rattle.conflicts.specs.Grid.{Grid, gridOf, withCells, callsConflict, gapless, depth}
+use Rattle.matrix.specs.Algorithm.Matrix.{matrixGrid}
 use Rattle.conflicts.specs.Sides.{errorFree, firstSides}
 use Rattle.conflicts.specs.Removal.{snpKeepMarks, fragmentKeepMarks}
 use Rattle.conflicts.specs.Corrections.{cost, leastCostSides}

@@ -5,7 +5,7 @@ ghost use lib.ListN.{length, getD, set};
 ghost use Rattle.below.specs.Below.{if_then_else_, bit, anyBelow, _<?_, _and_};
 ghost use Rattle.records.specs.Record.{isCall};
 ghost use Rattle.conflicts.specs.Choice.{marked};
-ghost use Rattle.conflicts.specs.Grid.{matrixGrid};
+ghost use Rattle.matrix.specs.Algorithm.Matrix.{matrixGrid};
 ghost use Rattle.phasing.specs.Algorithm.Related.{codesRelate, related, pairMatrix};
 use conflicts::calls_conflict;
 use records::byte;

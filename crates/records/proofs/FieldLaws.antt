@@ -9,7 +9,8 @@ use native.Mathlib.Decide.{decLe}
 use lib.ListN.{length, getD, take, drop}
 use lib.Seq.{getD-drop}
 use Rattle.below.specs.Below.{if_then_else_, tab, _<?_, _≤?_, _and_}
-use Rattle.records.specs.Record.{littleEndian, tagOf, startOf, spanOf, cellOf, cellBytesOf, copiedCell, codeAt}
+use Rattle.records.specs.Record.{littleEndian, tagOf, startOf, spanOf, cellOf, codeAt}
+use Rattle.records.specs.Algorithm.Copies.{cellBytesOf, copiedCell}
 use Rattle.below.proofs.RowLaws.{tab-ext}
 use Rattle.records.proofs.ByteLaws.{cell-in, cell-past}
 use Rattle.below.proofs.BelowLaws.{length-tab, getD-tab, if-ind, if-true, if-false, le-isnt, both, left-of, right-of, isnt-T, T-isnt, lt-<?, <?-lt, le-≤?, ≤?-le}

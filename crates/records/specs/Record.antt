@@ -4,7 +4,7 @@ use Prim.Native.Nat.{ℕ, _+_, _*_, _-_, _/_, _%_, _^_}
 use mathlib.Core.Bool.{Bool}
 use mathlib.Core.List.{List, [], _∷_}
 use lib.ListN.{getD, take, drop}
-use Rattle.below.specs.Below.{if_then_else_, _==_, _<?_, _≤?_, _and_, _or_, tab}
+use Rattle.below.specs.Below.{if_then_else_, _==_, _<?_, _≤?_, _and_, _or_}
 
 -- "numbers are little-endian": the number whose bytes these are
 unfoldable pub littleEndian : List ℕ → ℕ
@@ -34,14 +34,6 @@ isCall x = x == 1 or x == 2
 -- "cell i": the two bits of byte 8 + i / 4 from bit 2 × (i mod 4). There are 96 cells
 unfoldable pub cellOf : List ℕ → ℕ → ℕ
 cellOf r i = if i <? 96 then getD r (8 + i / 4) 0 / 4 ^ (i % 4) % 4 else 0
-
--- "a copy of its bytes 8 to 31"
-unfoldable pub cellBytesOf : List ℕ → List ℕ
-cellBytesOf r = tab 24 (λ k. getD r (8 + k) 0)
-
--- cell i in such a copy
-unfoldable pub copiedCell : List ℕ → ℕ → ℕ
-copiedCell copy i = if i <? 96 then getD copy (i / 4) 0 / 4 ^ (i % 4) % 4 else 0
 
 -- the code at a column: "cell i of the span belongs to column start + i", and a hole stands outside the span
 unfoldable pub codeAt : List ℕ → ℕ → ℕ

@@ -1,7 +1,8 @@
 // A record's fields and cells. Each reader takes any bytes: one past the end counts as 0.
 ghost use mathlib.Core.Path.{_≡_};
 ghost use lib.ListN.{getD};
-ghost use Rattle.records.specs.Record.{isCall, tagOf, startOf, spanOf, byte7Of, cellOf, cellBytesOf, copiedCell};
+ghost use Rattle.records.specs.Record.{isCall, tagOf, startOf, spanOf, byte7Of, cellOf};
+ghost use Rattle.records.specs.Algorithm.Copies.{cellBytesOf, copiedCell};
 
 // Byte i, or 0 past the end.
 pub fn byte(part: &[u8], i: usize) -> u8

@@ -2,7 +2,8 @@
 ghost use mathlib.Core.Path.{_≡_};
 ghost use Prim.Native.Nat.{_<_, _≤_};
 ghost use Rattle.below.specs.Below.{_==_, _≤?_, _and_, isnt, anyBelow};
-ghost use Rattle.records.specs.Record.{tagOf, spanOf, cellOf, copiedCell};
+ghost use Rattle.records.specs.Record.{tagOf, spanOf, cellOf};
+ghost use Rattle.records.specs.Algorithm.Copies.{copiedCell};
 ghost use Rattle.records.specs.Table.{fragments, recordAt};
 ghost use Rattle.records.specs.Outcome.{accepted, outcomeOf};
 ghost use Rattle.records.specs.Rules.{decide, outOfFrame, strayBits, openEnd, recordRules, tableRules, sizeRules, tableVerdict};

@@ -13,7 +13,8 @@ use Rattle.records.specs.Outcome.{Verdict}
 use Rattle.below.proofs.BelowLaws.{is-true}
 use Rattle.records.proofs.AcceptedLaws.{sized-count, sized-n}
 use Rattle.conflicts.specs.Choice.{keepAll, zeros}
-use Rattle.conflicts.specs.Grid.{gridOf, matrixGrid}
+use Rattle.conflicts.specs.Grid.{gridOf}
+use Rattle.matrix.specs.Algorithm.Matrix.{matrixGrid}
 use Rattle.conflicts.specs.Sides.{errorFree, firstSides}
 use Rattle.conflicts.specs.Removal.{snpKeepMarks, fragmentKeepMarks}
 use Rattle.conflicts.specs.Answer.{answer, snpAnswer, fragmentAnswer}

@@ -11,7 +11,7 @@ use lib.ListN.{getD, List·getD-eq-default}
 use Rattle.below.specs.Below.{if_then_else_, countBelow, tab, _==_, _<?_, _and_, isnt, nth}
 use Rattle.records.specs.Record.{isCall}
 use Rattle.below.proofs.BelowLaws.{both, right-of, if-ind, if-true, if-false, is-false, isnt-T, T-isnt, same-test, left-of, ==-eq, eq-==, <?-lt, lt-<?, sum-ext, length-tab, getD-tab}
-use Rattle.conflicts.specs.Grid.{matrixGrid}
+use Rattle.matrix.specs.Algorithm.Matrix.{matrixGrid}
 use Rattle.conflicts.specs.Corrections.{correctionCost, sideCount, sideLetter, correctedCell}
 use Rattle.rewriting.specs.Algorithm.Letters.{OnSides, correctedAt, correctedCells}
 use Rattle.below.proofs.TestLaws.{if-bit}

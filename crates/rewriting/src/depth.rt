@@ -3,8 +3,8 @@ use matrix::call_at;
 ghost use mathlib.Core.Path.{_≡_};
 ghost use Prim.Native.Nat.{ℕ, _≤_};
 ghost use Rattle.below.specs.Below.{bit};
-ghost use Rattle.conflicts.specs.Grid.{matrixGrid, depth};
-ghost use Rattle.matrix.specs.Algorithm.Matrix.{Matrix};
+ghost use Rattle.matrix.specs.Algorithm.Matrix.{matrixGrid, Matrix};
+ghost use Rattle.conflicts.specs.Grid.{depth};
 ghost use Rattle.rewriting.specs.Algorithm.Depth.{firstDeep};
 
 // 1 for a call, and 0 for none.

@@ -6,9 +6,8 @@ ghost use Prim.Native.Nat.{_≤_, _<_};
 ghost use lib.ListN.{length};
 ghost use Rattle.below.specs.Below.{nth, if_then_else_, tab, _==_, _and_};
 ghost use Rattle.records.specs.Record.{isCall};
-ghost use Rattle.conflicts.specs.Grid.{matrixGrid};
+ghost use Rattle.matrix.specs.Algorithm.Matrix.{matrixGrid, Matrix};
 ghost use Rattle.conflicts.specs.Corrections.{sideCount, sideLetter, majorityLetter};
-ghost use Rattle.matrix.specs.Algorithm.Matrix.{Matrix};
 ghost use Rattle.rewriting.specs.Algorithm.Letters.{correctedCells, OnSides, correctedAt};
 
 // Whether a cell of a fragment on a side is the letter, on side s.

@@ -9,7 +9,8 @@ use native.Mathlib.Numerals.{add-one}
 use native.Mathlib.Omega.{arith}
 use lib.Pow.{pow-mono, pow-pos}
 use Rattle.below.specs.Below.{if_then_else_}
-use Rattle.conflicts.specs.Grid.{Grid, matrixGrid, mixed}
+use Rattle.conflicts.specs.Grid.{Grid, mixed}
+use Rattle.matrix.specs.Algorithm.Matrix.{matrixGrid}
 use Rattle.ranks.specs.declared.rank.Rank.{Rank}
 use Rattle.ranks.specs.Algorithm.Weight.{top, place, AtMost, removal}
 use Rattle.ranks.specs.Algorithm.Reading.{code, value, SumFits}

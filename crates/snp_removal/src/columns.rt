@@ -4,7 +4,8 @@ use records::is_call;
 ghost use mathlib.Core.Path.{_≡_};
 ghost use Prim.Native.Nat.{ℕ, _+_, _*_, _<_, _≤_};
 ghost use lib.ListN.{length, getD};
-ghost use Rattle.conflicts.specs.Grid.{matrixGrid, mixed};
+ghost use Rattle.matrix.specs.Algorithm.Matrix.{matrixGrid};
+ghost use Rattle.conflicts.specs.Grid.{mixed};
 ghost use Rattle.snp_removal.specs.Algorithm.Columns.{columnsConflict, mayFollow};
 ghost use Rattle.snp_removal.specs.Algorithm.Pairs.{noPairs, withCalls, bothKinds};
 

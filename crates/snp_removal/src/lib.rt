@@ -3,9 +3,8 @@ use ranks::table;
 ghost use mathlib.Core.Path.{_≡_};
 ghost use lib.ListN.{length};
 ghost use Rattle.conflicts.specs.Choice.{zeros};
-ghost use Rattle.conflicts.specs.Grid.{matrixGrid};
+ghost use Rattle.matrix.specs.Algorithm.Matrix.{matrixGrid, Gapless, Matrix};
 ghost use Rattle.conflicts.specs.Removal.{snpKeepMarks};
-ghost use Rattle.matrix.specs.Algorithm.Matrix.{Gapless, Matrix};
 
 mod columns;
 mod programme;

@@ -6,7 +6,7 @@ ghost use mathlib.Core.Path.{_≡_};
 ghost use Prim.Native.Nat.{ℕ, _+_, _-_, _<_, _≤_};
 ghost use lib.ListN.{length};
 ghost use Rattle.below.specs.Below.{tab};
-ghost use Rattle.conflicts.specs.Grid.{matrixGrid};
+ghost use Rattle.matrix.specs.Algorithm.Matrix.{matrixGrid};
 ghost use Rattle.ranks.specs.Algorithm.Weight.{place, digitAt, AtMost, removal};
 ghost use Rattle.ranks.specs.Algorithm.Reading.{code, value};
 ghost use Rattle.ranks.specs.Algorithm.Tables.{at, Sweep};

@@ -15,7 +15,8 @@ use Rattle.records.specs.Rules.{Rule, decide, sizeRules, tableRules}
 use Rattle.below.proofs.BelowLaws.{length-tab, is-true, is-false, eq-==, ne-isnt, T-isnt-isnt}
 use Rattle.records.proofs.RuleLaws.{rule-broken, rule-kept, decide-none, decide-accepted, stage-kept, stage-refused, stage-last}
 use Rattle.conflicts.specs.Choice.{keepAll}
-use Rattle.conflicts.specs.Grid.{gridOf, matrixGrid}
+use Rattle.conflicts.specs.Grid.{gridOf}
+use Rattle.matrix.specs.Algorithm.Matrix.{matrixGrid}
 use Rattle.conflicts.specs.Sides.{errorFree, firstSides}
 use Rattle.conflicts.specs.Answer.{answerSize, answer, checkAnswer}
 use Rattle.conflicts.specs.Services.{writtenOnYes, lengthRule, checkRules, checkLeaves}

@@ -6,7 +6,8 @@ use mathlib.Core.List.{List}
 use Prim.Native.Nat.{ℕ, _+_, _*_, _-_, _^_, _≤_, _<_, min}
 use lib.ListN.{getD, length}
 use Rattle.below.specs.Below.{if_then_else_, countBelow, _==_, _<?_, _≤?_, _and_, nth}
-use Rattle.conflicts.specs.Grid.{Grid, matrixGrid}
+use Rattle.conflicts.specs.Grid.{Grid}
+use Rattle.matrix.specs.Algorithm.Matrix.{matrixGrid, Matrix}
 use Rattle.conflicts.specs.Corrections.{sidePrice, columnCost}
 use Rattle.ranks.specs.declared.rank.Rank.{Rank}
 use Rattle.ranks.specs.Algorithm.Weight.{top, place}
@@ -15,7 +16,6 @@ use Rattle.events.specs.Algorithm.Events.{Event}
 use Rattle.events.specs.Algorithm.Weights.{sideWeight, columnWeight}
 use Rattle.events.specs.Algorithm.Slots.{digit, HoldsEvents, Given, Apart, gathered}
 use Rattle.corrections.specs.Algorithm.Columns.{Shallow, firstColumn, endColumn, covers}
-use Rattle.matrix.specs.Algorithm.Matrix.{Matrix}
 
 -- where the fragments start and end
 pub record Spanned (g : Grid) (starts ends : List ℕ) : Type 0 where

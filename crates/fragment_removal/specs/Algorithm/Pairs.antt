@@ -4,15 +4,15 @@ use mathlib.Core.Path.{_≡_}
 use mathlib.Core.List.{List}
 use Prim.Native.Nat.{ℕ, _+_, _*_, _-_, _/_, _%_, _≤_, _<_}
 use lib.ListN.{length}
-use Rattle.conflicts.specs.Grid.{Grid, matrixGrid}
+use Rattle.conflicts.specs.Grid.{Grid}
+use Rattle.matrix.specs.Algorithm.Matrix.{matrixGrid, Matrix}
 use Rattle.ranks.specs.declared.rank.Rank.{Rank}
 use Rattle.ranks.specs.Algorithm.Weight.{top, AtMost}
 use Rattle.ranks.specs.Algorithm.Reading.{code}
 use Rattle.ranks.specs.Algorithm.Tables.{at}
-use Rattle.fragment_removal.specs.Algorithm.Fragments.{start, Ordered, Begins}
+use Rattle.fragment_order.specs.Algorithm.Fragments.{start, Ordered, Begins, stateReach}
 use Rattle.below.specs.Below.{nth}
-use Rattle.matrix.specs.Algorithm.Matrix.{Matrix}
-use Rattle.fragment_removal.specs.Algorithm.Programme.{stateReach, leastFragmentWeight}
+use Rattle.fragment_removal.specs.Algorithm.Programme.{leastFragmentWeight}
 
 -- the weight at states h and l
 abbrev pub pairs : List ℕ → List ℕ → List ℕ → ℕ → ℕ → ℕ

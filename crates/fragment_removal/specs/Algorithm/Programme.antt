@@ -1,21 +1,11 @@
 -- The least weight of the fragments removed, by recursion on the fragments that remain in the order (paper 001, section 5.2).
 -- Assumes nothing.
 use Prim.Native.Nat.{ℕ, zero, suc, _+_, _-_, min}
-use mathlib.Core.Bool.{Bool, true}
+use mathlib.Core.Bool.{Bool}
 use Rattle.below.specs.Below.{if_then_else_, _<?_}
-use Rattle.conflicts.specs.Grid.{Grid, agree}
+use Rattle.conflicts.specs.Grid.{Grid}
 use Rattle.ranks.specs.Algorithm.Weight.{removal}
-use Rattle.fragment_removal.specs.Algorithm.Fragments.{reach}
-
--- a side's state: 0 if no fragment is kept on it, and else one more than the place in the order of the one "that reaches furthest"; how far that one reaches
-unfoldable pub stateReach : Grid → (ℕ → ℕ) → ℕ → ℕ
-stateReach g order zero = 0
-stateReach g order (suc h) = reach g (order h)
-
--- the fragment at place i agrees with a side's state
-unfoldable pub mayJoin : Grid → (ℕ → ℕ) → ℕ → ℕ → Bool
-mayJoin g order zero i = true
-mayJoin g order (suc h) i = agree g (order h) (order i)
+use Rattle.fragment_order.specs.Algorithm.Fragments.{stateReach, mayJoin}
 
 -- the state of a side once the fragment at place i has joined it
 abbrev pub furthest : (ℕ → ℕ) → ℕ → ℕ → ℕ

@@ -2,10 +2,14 @@
 -- Assumes nothing.
 use mathlib.Core.Path.{_≡_}
 use mathlib.Core.List.{List}
-use Prim.Native.Nat.{ℕ, _≤_, _<_}
+use Prim.Native.Nat.{ℕ, _+_, _*_, _≤_, _<_}
 use lib.Dec.{T}
-use lib.ListN.{length}
+use lib.ListN.{length, getD}
 use Rattle.conflicts.specs.Grid.{Grid, gapless}
+
+-- the matrix of a flat list of cells, 128 to a fragment; it has at most 128 columns wherever it is used (`Matrix`)
+unfoldable pub matrixGrid : ℕ → ℕ → List ℕ → Grid
+matrixGrid m n cells = record { m = m; n = n; cell = λ i c. getD cells (i * 128 + c) 0 }
 
 -- a cell matrix of 128 cells to a fragment, with m fragments and n columns in use
 pub record Matrix (m n : ℕ) (cells : List ℕ) : Type 0 where

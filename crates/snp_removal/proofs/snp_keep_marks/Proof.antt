@@ -3,7 +3,7 @@
 use mathlib.Core.Path.{_∙_}
 use Prim.Native.Nat.{zero-le}
 use borrow.Author.Needs.{needs}
-use Rattle.conflicts.specs.Grid.{matrixGrid}
+use Rattle.matrix.specs.Algorithm.Matrix.{matrixGrid}
 use Rattle.ranks.proofs.TableLaws.{zeros-at}
 use Rattle.snp_removal.proofs.StateLaws.{holds-none}
 use Rattle.snp_removal.proofs.SnpLaws.{rank-marks}

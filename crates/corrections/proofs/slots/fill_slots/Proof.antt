@@ -4,7 +4,7 @@ use mathlib.Core.Path.{_≡_}
 use Prim.Native.Nat.{_+_, _*_, _-_, _≤_, zero-le}
 use native.Mathlib.Omega.{arith}
 use borrow.Author.Needs.{needs}
-use Rattle.conflicts.specs.Grid.{matrixGrid}
+use Rattle.matrix.specs.Algorithm.Matrix.{matrixGrid}
 use Rattle.corrections.specs.Algorithm.Sweep.{Granted}
 use Rattle.corrections.proofs.GrantLaws.{all-granted}
 use Rattle.corrections.proofs.slots.fill_slots.Statement.{statement}

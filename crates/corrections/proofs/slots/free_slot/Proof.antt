@@ -6,7 +6,7 @@ use native.Mathlib.Omega.{arith}
 use borrow.Author.Needs.{needs}
 use Rattle.below.specs.Below.{isnt, nth}
 use Rattle.below.proofs.SearchLaws.{NoneBelow, none-yet, none-more, first-hit, first-none}
-use Rattle.conflicts.specs.Grid.{matrixGrid}
+use Rattle.matrix.specs.Algorithm.Matrix.{matrixGrid}
 use Rattle.events.specs.Algorithm.Slots.{used, freeSlot}
 use Rattle.corrections.specs.Algorithm.Columns.{firstColumn, covers}
 use Rattle.corrections.proofs.GrantLaws.{free-yes, free-no}

@@ -3,7 +3,7 @@
 use Prim.Native.Nat.{_+_, _*_, _-_, _≤_, zero-le}
 use native.Mathlib.Omega.{arith}
 use borrow.Author.Needs.{needs}
-use Rattle.conflicts.specs.Grid.{matrixGrid}
+use Rattle.matrix.specs.Algorithm.Matrix.{matrixGrid}
 use Rattle.corrections.specs.Algorithm.Sweep.{Granted}
 use Rattle.corrections.proofs.GrantLaws.{column-over}
 use Rattle.corrections.proofs.slots.slot_column.Statement.{statement}

@@ -2,7 +2,7 @@
 -- Assumes nothing.
 use mathlib.Core.Path.{sym, _∙_}
 use borrow.Author.Needs.{needs}
-use Rattle.conflicts.specs.Grid.{matrixGrid}
+use Rattle.matrix.specs.Algorithm.Matrix.{matrixGrid}
 use Rattle.corrections.proofs.GrantLaws.{grant, pass}
 use Rattle.corrections.proofs.slots.slot_one.Statement.{statement}
 use Rattle.corrections.proofs.slots.slot_one.Tie as tie

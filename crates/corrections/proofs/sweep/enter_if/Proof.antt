@@ -4,7 +4,7 @@ use mathlib.Core.Path.{sym, _∙_}
 use Prim.Native.Nat.{suc, _+_, _-_, _≤_}
 use native.Mathlib.Omega.{arith}
 use borrow.Author.Needs.{needs}
-use Rattle.conflicts.specs.Grid.{matrixGrid}
+use Rattle.matrix.specs.Algorithm.Matrix.{matrixGrid}
 use Rattle.ranks.specs.Algorithm.Tables.{at}
 use Rattle.corrections.proofs.StepLaws.{part-room, step-skip, step-enter}
 use Rattle.corrections.proofs.sweep.enter_if.Statement.{statement}

@@ -4,7 +4,7 @@ use mathlib.Core.Path.{_≡_, subst}
 use Prim.Native.Nat.{ℕ, _-_, _≤_, zero-le}
 use native.Mathlib.Omega.{arith}
 use borrow.Author.Needs.{needs}
-use Rattle.conflicts.specs.Grid.{matrixGrid}
+use Rattle.matrix.specs.Algorithm.Matrix.{matrixGrid}
 use Rattle.corrections.specs.Algorithm.Sweep.{Gathered}
 use Rattle.corrections.proofs.sweep.gather.Statement.{statement}
 use Rattle.corrections.proofs.sweep.gather.Tie as tie

@@ -2,7 +2,7 @@
 -- Assumes nothing.
 use borrow.Author.Needs.{needs}
 use native.Mathlib.Omega.{arith}
-use Rattle.conflicts.specs.Grid.{matrixGrid}
+use Rattle.matrix.specs.Algorithm.Matrix.{matrixGrid}
 use Rattle.corrections.proofs.GrantLaws.{covered, uncovered-before, uncovered-after, gathered-put, gathered-skip}
 use Rattle.corrections.proofs.sweep.gather_one.Statement.{statement}
 use Rattle.corrections.proofs.sweep.gather_one.Tie as tie

@@ -4,10 +4,10 @@ use mathlib.Core.Path.{refl}
 use Prim.Native.Nat.{_-_}
 use native.Mathlib.Omega.{arith}
 use borrow.Author.Needs.{needs}
-use Rattle.conflicts.specs.Grid.{matrixGrid}
+use Rattle.matrix.specs.Algorithm.Matrix.{matrixGrid}
 use Rattle.ranks.specs.Algorithm.Reading.{value}
 use Rattle.below.specs.Below.{nth}
-use Rattle.fragment_removal.specs.Algorithm.Programme.{mayJoin}
+use Rattle.fragment_order.specs.Algorithm.Fragments.{mayJoin}
 use Rattle.fragment_removal.specs.Algorithm.Pairs.{pairs}
 use Rattle.fragment_removal.proofs.PairLaws.{removal-of, begins-marks, holds-room, holds-more}
 use Rattle.fragment_removal.proofs.programme.extend.Statement.{statement}

@@ -3,10 +3,9 @@
 use mathlib.Core.Path.{_∙_}
 use Prim.Native.Nat.{zero-le}
 use borrow.Author.Needs.{needs}
-use Rattle.conflicts.specs.Grid.{matrixGrid}
+use Rattle.matrix.specs.Algorithm.Matrix.{matrixGrid}
 use Rattle.below.specs.Below.{nth}
-use Rattle.fragment_removal.proofs.PairLaws.{zeros-pairs, holds-none}
-use Rattle.fragment_removal.proofs.ReadLaws.{cleared-as}
+use Rattle.fragment_removal.proofs.PairLaws.{zeros-pairs, cleared-as, holds-none}
 use Rattle.fragment_removal.proofs.FragmentLaws.{rank-marks}
 use Rattle.fragment_removal.proofs.programme.least.Statement.{statement}
 use Rattle.fragment_removal.proofs.programme.least.Tie as tie

@@ -5,7 +5,7 @@ use Prim.Native.Nat.{ℕ, _-_, _≤_}
 use native.Mathlib.Nat.{le-antisymm}
 use lib.ListN.{length}
 use borrow.Author.Needs.{needs}
-use Rattle.conflicts.specs.Grid.{matrixGrid}
+use Rattle.matrix.specs.Algorithm.Matrix.{matrixGrid}
 use Rattle.below.specs.Below.{nth}
 use Rattle.fragment_removal.specs.Algorithm.Pairs.{pairs, HoldsFragments}
 use Rattle.fragment_removal.proofs.programme.suffixes.Statement.{statement}

@@ -3,7 +3,7 @@
 use borrow.Author.Needs.{needs}
 use Prim.Native.Nat.{_-_}
 use Rattle.below.proofs.FillLaws.{Filled, filled-none, filled-all}
-use Rattle.conflicts.specs.Grid.{matrixGrid}
+use Rattle.matrix.specs.Algorithm.Matrix.{matrixGrid}
 use Rattle.phasing.specs.Algorithm.Related.{related, pairMatrix}
 use Rattle.phasing.proofs.MatrixLaws.{entry, pair-more}
 use Rattle.phasing.proofs.pairs.fill_pairs.Statement.{statement}

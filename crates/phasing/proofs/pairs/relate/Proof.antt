@@ -3,7 +3,7 @@
 use borrow.Author.Needs.{needs}
 use mathlib.Core.Path.{sym, _∙_}
 use Rattle.conflicts.specs.Choice.{marked}
-use Rattle.conflicts.specs.Grid.{matrixGrid}
+use Rattle.matrix.specs.Algorithm.Matrix.{matrixGrid}
 use Rattle.phasing.specs.Algorithm.Related.{related}
 use Rattle.phasing.proofs.PairLaws.{first-unmarked, second-unmarked, both-marked}
 use Rattle.phasing.proofs.pairs.relate.Statement.{statement}

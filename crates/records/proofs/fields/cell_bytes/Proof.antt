@@ -1,7 +1,7 @@
 use lib.ListN.{getD}
 use mathlib.Core.Path.{refl}
 use Prim.Native.Nat.{_+_, _-_}
-use Rattle.records.specs.Record.{cellBytesOf}
+use Rattle.records.specs.Algorithm.Copies.{cellBytesOf}
 use Rattle.below.proofs.FillLaws.{Filled, filled-none, filled-more, filled-all}
 use borrow.Author.Needs.{needs}
 use native.Mathlib.Omega.{arith}

@@ -1,7 +1,7 @@
 use Prim.Native.Nat.{_-_}
 use native.Mathlib.Omega.{arith}
 use borrow.Author.Needs.{needs}
-use Rattle.records.specs.Record.{copiedCell}
+use Rattle.records.specs.Algorithm.Copies.{copiedCell}
 use Rattle.below.proofs.FillLaws.{Written, written-none, written-more, written-all}
 use Rattle.records.proofs.rows.write_cells.Statement.{statement}
 use Rattle.records.proofs.rows.write_cells.Tie as tie

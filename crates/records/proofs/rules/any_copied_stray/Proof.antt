@@ -1,7 +1,7 @@
 use Prim.Native.Nat.{_-_, _≤_}
 use mathlib.Core.Path.{sym}
 use Rattle.below.specs.Below.{_==_, _≤?_, _and_, isnt}
-use Rattle.records.specs.Record.{copiedCell}
+use Rattle.records.specs.Algorithm.Copies.{copiedCell}
 use Rattle.below.proofs.SearchLaws.{NoneBelow, none-before, none-more, any-hit, any-none, ≤?-true, ==-true, ==-false}
 use borrow.Author.Needs.{needs}
 use native.Mathlib.Omega.{arith}

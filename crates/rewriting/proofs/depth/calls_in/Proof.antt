@@ -8,7 +8,8 @@ use borrow.Author.Needs.{needs}
 use Rattle.below.specs.Below.{bit, countBelow}
 use Rattle.records.specs.Record.{isCall}
 use Rattle.below.proofs.BelowLaws.{count-next, count-bound}
-use Rattle.conflicts.specs.Grid.{matrixGrid, depth}
+use Rattle.matrix.specs.Algorithm.Matrix.{matrixGrid}
+use Rattle.conflicts.specs.Grid.{depth}
 use Rattle.rewriting.proofs.DepthLaws.{count-none}
 use Rattle.rewriting.proofs.depth.calls_in.Statement.{statement}
 use Rattle.rewriting.proofs.depth.calls_in.Tie as tie

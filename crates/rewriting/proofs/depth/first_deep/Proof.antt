@@ -6,7 +6,8 @@ use native.Mathlib.Omega.{arith}
 use borrow.Author.Needs.{needs}
 use Rattle.below.specs.Below.{_<?_}
 use Rattle.below.proofs.SearchLaws.{NoneBelow, none-yet, none-more, first-hit, first-none, <?-true, <?-false}
-use Rattle.conflicts.specs.Grid.{matrixGrid, depth}
+use Rattle.matrix.specs.Algorithm.Matrix.{matrixGrid}
+use Rattle.conflicts.specs.Grid.{depth}
 use Rattle.rewriting.specs.Algorithm.Depth.{firstDeep}
 use Rattle.rewriting.proofs.depth.first_deep.Statement.{statement}
 use Rattle.rewriting.proofs.depth.first_deep.Tie as tie

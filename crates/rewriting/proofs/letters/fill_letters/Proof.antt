@@ -3,7 +3,7 @@
 use borrow.Author.Needs.{needs}
 use Prim.Native.Nat.{_-_}
 use Rattle.below.proofs.FillLaws.{Filled, filled-none, filled-more, filled-all}
-use Rattle.conflicts.specs.Grid.{matrixGrid}
+use Rattle.matrix.specs.Algorithm.Matrix.{matrixGrid}
 use Rattle.conflicts.specs.Corrections.{sideLetter}
 use Rattle.rewriting.proofs.letters.fill_letters.Statement.{statement}
 use Rattle.rewriting.proofs.letters.fill_letters.Tie as tie

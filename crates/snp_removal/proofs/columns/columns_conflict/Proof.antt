@@ -4,7 +4,7 @@ use mathlib.Core.Path.{_≡_, sym, ap, _∙_}
 use Prim.Native.Nat.{_+_, _-_, _≤_}
 use native.Mathlib.Omega.{arith}
 use borrow.Author.Needs.{needs}
-use Rattle.conflicts.specs.Grid.{matrixGrid}
+use Rattle.matrix.specs.Algorithm.Matrix.{matrixGrid}
 use Rattle.snp_removal.specs.Algorithm.Columns.{columnsConflict, callsBoth}
 use Rattle.snp_removal.specs.Algorithm.Pairs.{bothKinds, pairsOf}
 use Rattle.snp_removal.proofs.PairLaws.{pairs-next, pairs-conflict, pairs-enough}

@@ -6,7 +6,7 @@ use native.Mathlib.Nat.{le-refl}
 use native.Mathlib.Omega.{arith}
 use lib.ListN.{length}
 use borrow.Author.Needs.{needs}
-use Rattle.conflicts.specs.Grid.{matrixGrid}
+use Rattle.matrix.specs.Algorithm.Matrix.{matrixGrid}
 use Rattle.ranks.specs.Algorithm.Weight.{place, AtMost, removal}
 use Rattle.ranks.specs.Algorithm.Reading.{value}
 use Rattle.ranks.specs.Algorithm.Tables.{at, Sweep}

@@ -2,7 +2,7 @@
 -- Assumes nothing.
 use mathlib.Core.Path.{refl, sym, _∙_}
 use borrow.Author.Needs.{needs}
-use Rattle.conflicts.specs.Grid.{matrixGrid}
+use Rattle.matrix.specs.Algorithm.Matrix.{matrixGrid}
 use Rattle.ranks.specs.Algorithm.Tables.{at}
 use Rattle.snp_removal.proofs.StateLaws.{holds-room, holds-mixed, holds-plain}
 use Rattle.snp_removal.proofs.programme.extend.Statement.{statement}

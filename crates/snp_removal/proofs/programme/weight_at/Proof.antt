@@ -3,7 +3,7 @@
 use mathlib.Core.Path.{_≡_}
 use Prim.Native.Nat.{ℕ}
 use borrow.Author.Needs.{needs}
-use Rattle.conflicts.specs.Grid.{matrixGrid}
+use Rattle.matrix.specs.Algorithm.Matrix.{matrixGrid}
 use Rattle.ranks.specs.Algorithm.Reading.{value}
 use Rattle.ranks.specs.Algorithm.Tables.{at}
 use Rattle.snp_removal.specs.Algorithm.Programme.{ifMixed}

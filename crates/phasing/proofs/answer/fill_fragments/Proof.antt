@@ -1,0 +1,28 @@
+-- `answer::fill_fragments` meets its contract.
+-- Assumes nothing.
+use borrow.Author.Needs.{needs}
+use Rattle.phasing.proofs.SectionLaws.{two-fill}
+use Rattle.phasing.proofs.answer.fill_fragments.Statement.{statement}
+use Rattle.phasing.proofs.answer.fill_fragments.Tie as tie
+
+returns : tie.Need-returns
+returns c =
+    let copy = c .before .before .before .before .before .before .copy in
+    let start = c .before .before .before .before .before .before .before .before .before .before .before .before in
+    let a = start .args in
+    two-fill (a .bytes .now) (copy .ensures) (c .before .before .fill-blocks .ensures) (a .m) (rw (copy .ensures) (start .pre .0 .fragments))
+
+pub fill-fragments-spec : {M : Type 1} → statement M
+fill-fragments-spec =
+    tie.close
+    (tie.spec
+    (λ c. search needs)
+    (λ c. search needs)
+    (λ c. search needs)
+    (λ c κs. search needs)
+    (λ c. search needs)
+    (λ c. search needs)
+    (λ c. search needs)
+    (λ c κs. search needs)
+    (λ c. search needs)
+    returns)
