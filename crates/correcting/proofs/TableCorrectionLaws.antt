@@ -37,6 +37,7 @@ use Rattle.rewriting.specs.Algorithm.Depth.{firstDeep}
 use Rattle.rewriting.specs.Algorithm.Letters.{OnSides, correctedCells}
 use Rattle.rewriting.proofs.DepthLaws.{first-deep, first-none}
 use Rattle.corrections.proofs.CoverLaws.{not-deep}
+use Rattle.corrections.proofs.GrantLaws.{first-same}
 use Rattle.rewriting.proofs.LetterLaws.{corrected-cell, corrected-two-bits}
 use Rattle.records.specs.Algorithm.Kept.{SizesKept, RecordsKept}
 use Rattle.correcting.specs.Algorithm.Stages.{CorrectionKept}
@@ -44,11 +45,6 @@ use Rattle.correcting.specs.Meanings.{CorrectionSays}
 use Rattle.rewriting.specs.Algorithm.Rewriting.{rowIn, TwoBits, rewrittenTable}
 use Rattle.conflicts.proofs.SideLaws.{all-length}
 use Rattle.matrix.proofs.KeptLaws.{few, grid-is, table-gapless}
-
-first-same : (n : ℕ) (p q : ℕ → Bool) → ((c : ℕ) → c < n → p c ≡ q c) → firstBelow n p ≡ firstBelow n q
-unfolding firstBelow
-first-same zero p q h = refl
-first-same (suc n) p q h = rw (first-same n p q (λ c l. h c (omega arith)), h n (omega arith))
 
 -- rule 12 is kept where the search for its column ends past the last one
 pub shallow-columns : (m n : ℕ) (cells : List ℕ) {deep : ℕ} → deep ≡ firstDeep (matrixGrid m n cells) → n ≤ deep → firstDeep (matrixGrid m n cells) ≡ n

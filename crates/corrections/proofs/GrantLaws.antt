@@ -10,18 +10,19 @@ use native.Mathlib.Omega.{arith}
 use lib.Dec.{T}
 use lib.ListN.{length, getD, set, replicate, length-set}
 use lib.Seq.{getD-set-same, getD-set-other}
-use Rattle.below.specs.Below.{_==_, _and_, isnt, countBelow, nth}
+use Rattle.below.specs.Below.{_==_, _<?_, _≤?_, _and_, isnt, countBelow, firstBelow, nth}
+use Rattle.below.proofs.BelowLaws.{both, left-of, right-of, T-isnt, isnt-T, isnt-and, if-ind, if-true, if-false, any-ext, <?-lt, lt-<?, ≤?-le, le-≤?, le-isnt}
 use Rattle.below.proofs.SearchLaws.{<?-true, <?-false, ≤?-true, ≤?-false}
 use Rattle.conflicts.specs.Grid.{Grid}
 use Rattle.ranks.specs.Algorithm.Tables.{Put}
 use Rattle.events.specs.Algorithm.Events.{withValue}
-use Rattle.events.specs.Algorithm.Slots.{turnOf, taken, freeSlot, Given, gathered}
+use Rattle.events.specs.Algorithm.Slots.{turnOf, taken, used, freeSlot, Given, gathered}
 use Rattle.events.proofs.LeastLaws.{value-same, value-other}
 use Rattle.events.proofs.FreeLaws.{free-below, free-apart, given-none, given-skip, given-more, given-next, given-apart}
 use Rattle.events.proofs.GatherLaws.{gathered-here, gathered-there}
 use Rattle.corrections.specs.Algorithm.Columns.{firstColumn, covers, coverage, Shallow}
-use Rattle.corrections.specs.Algorithm.Sweep.{hitSlot, Spanned, Granted, Slotted, Gathered}
-use Rattle.corrections.proofs.CoverLaws.{covers-at, covers-of, grid-starts}
+use Rattle.corrections.specs.Algorithm.Sweep.{hitSlot, usedBy, freeBy, Spans, Spanned, Granted, Slotted, Gathered, withLetter}
+use Rattle.corrections.proofs.CoverLaws.{covers-at, covers-of, grid-starts, start-le}
 
 -- ---- lists
 
@@ -32,6 +33,12 @@ pub zeros-at : (n i : ℕ) → _≡_ {A = ℕ} (getD (replicate n 0) i 0) 0
 zeros-at zero i = refl
 zeros-at (suc n) zero = refl
 zeros-at (suc n) (suc i) = zeros-at n i
+
+-- the lowest number that passes one of two tests that say the same
+pub first-same : (n : ℕ) (p q : ℕ → Bool) → ((c : ℕ) → c < n → p c ≡ q c) → firstBelow n p ≡ firstBelow n q
+unfolding firstBelow
+first-same zero p q h = refl
+first-same (suc n) p q h = rw (first-same n p q (λ c l. h c (omega arith)), h n (omega arith))
 
 -- ---- the test of one fragment and slot
 
@@ -68,14 +75,22 @@ module _ (g : Grid) (starts ends : List ℕ) (sp : Spanned g starts ends) where
   unfolding hitSlot taken covers _and_
   hit-is slots c turn b x lt = rw (sp .begins x lt, sp .stops x lt, <?-true x (g .m) lt)
 
+  -- the slot that the lists show free is the one that the theory takes
+  pub free-is : (slots : List ℕ) (c turn : ℕ) → freeBy (g .m) starts ends slots c turn ≡ freeSlot (firstColumn g) (covers g) (g .m) 8 c turn (nth slots)
+  unfolding freeBy freeSlot usedBy used
+  free-is slots c turn = first-same 8 _ _ (λ b l. ap isnt (any-ext (g .m) _ _ (hit-is slots c turn b)))
+
+  pub spans-of : {slots : List ℕ} → g .m ≤ 128 → g .n ≤ 128 → length slots ≡ 128 → Spans (g .m) starts ends slots
+  spans-of few narrow long = record {
+    few = few;
+    starts-size = sp .starts-size;
+    ends-size = sp .ends-size;
+    slots-size = long;
+    low = λ x l. let e = sp .begins x l in let h = start-le g x in omega arith;
+  }
+
   pub covered : (c i : ℕ) → i < g .m → getD starts i 0 ≤ c → c < getD ends i 0 → T (covers g c i)
   covered c i lt a b = let p = sp .begins i lt in let q = sp .stops i lt in covers-of g c i lt (omega arith) (omega arith)
-
-  pub uncovered-before : (c i : ℕ) → i < g .m → c < getD starts i 0 → T (covers g c i) → ⊥
-  uncovered-before c i lt a t = let r = covers-at g c i t in let p = sp .begins i lt in let q = r .1 in omega arith
-
-  pub uncovered-after : (c i : ℕ) → i < g .m → getD ends i 0 ≤ c → T (covers g c i) → ⊥
-  uncovered-after c i lt a t = let r = covers-at g c i t in let p = sp .stops i lt in let q = r .2 in omega arith
 
 module _ (g : Grid) (small : g .m ≤ 128) where
   abbrev start : ℕ → ℕ
@@ -199,3 +214,36 @@ module _ (g : Grid) (slots : List ℕ) (c : ℕ) where
     size = h .size;
     letter = λ b lt. rw (add-one i) (h .letter b lt ∙ sym (gathered-there (covers g c) (nth slots) (λ j. g .cell j c) i b (λ u e. out u)));
   }
+
+-- one fragment more
+pub gathered-more : (g : Grid) (cells starts ends slots : List ℕ) (c : ℕ) (letters : List ℕ) (i : ℕ) → Spanned g starts ends → i < g .m → g .cell i c ≡ getD cells (i * 128 + c) 0 → getD slots i 0 < 8
+    → Gathered g slots c i letters → Gathered g slots c (i + 1) (withLetter cells starts ends slots c i letters)
+unfolding withLetter
+gathered-more g cells starts ends slots c letters i sp lt e low h =
+    if-ind (λ (l : List ℕ). Gathered g slots c (i + 1) l) (nth starts i ≤? c and c <? nth ends i)
+    (λ t. rw (sym e) (gathered-put g slots c letters i low (covered g starts ends sp c i lt (≤?-le _ _ (left-of _ _ t)) (<?-lt _ _ (right-of _ _ t))) h))
+    (λ t. gathered-skip g slots c letters i (λ u.
+    let r = covers-at g c i u in
+    let p = sp .begins i lt in
+    let q = sp .stops i lt in
+    let from = r .1 in
+    let to = r .2 in
+    T-isnt _ t (both _ _ (le-≤? _ _ (omega arith)) (lt-<? _ _ (omega arith)))) h)
+
+-- the letters after a test, as the code has them
+module _ (cells starts ends slots : List ℕ) (c i : ℕ) (letters : List ℕ) where
+  pub letter-put : getD starts i 0 ≤ c → c < getD ends i 0 → set letters (getD slots i 0) (getD cells (i * 128 + c) 0) ≡ withLetter cells starts ends slots c i letters
+  unfolding withLetter
+  letter-put p q = sym (if-true (nth starts i ≤? c and c <? nth ends i) _ _ (both _ _ (le-≤? _ _ p) (lt-<? _ _ q)))
+
+  pub letter-ended : getD ends i 0 ≤ c → letters ≡ withLetter cells starts ends slots c i letters
+  unfolding withLetter
+  letter-ended q = sym (if-false (nth starts i ≤? c and c <? nth ends i) _ _ (isnt-and _ _ (λ t. le-isnt _ _ q)))
+
+  pub letter-not-begun : c < getD starts i 0 → letters ≡ withLetter cells starts ends slots c i letters
+  unfolding withLetter
+  letter-not-begun p = sym (if-false (nth starts i ≤? c and c <? nth ends i) _ _ (isnt-T _ (λ t. let h = ≤?-le _ _ (left-of _ _ t) in absurd (omega arith))))
+
+  pub letters-long : length (withLetter cells starts ends slots c i letters) ≡ length letters
+  unfolding withLetter
+  letters-long = if-ind (λ (l : List ℕ). length l ≡ length letters) (nth starts i ≤? c and c <? nth ends i) (λ t. length-set letters _ _) (λ t. refl)

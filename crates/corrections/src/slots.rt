@@ -3,10 +3,9 @@ ghost use mathlib.Core.Path.{_≡_};
 ghost use Prim.Native.Nat.{_+_, _*_, _<_, _≤_};
 ghost use lib.ListN.{length};
 ghost use Rattle.matrix.specs.Algorithm.Matrix.{matrixGrid, Matrix};
-ghost use Rattle.events.specs.Algorithm.Slots.{used, freeSlot};
 ghost use Rattle.corrections.specs.Algorithm.Columns.{Shallow, firstColumn, covers};
 ghost use Rattle.below.specs.Below.{nth};
-ghost use Rattle.corrections.specs.Algorithm.Sweep.{hitSlot, Spanned, Granted, Slotted};
+ghost use Rattle.corrections.specs.Algorithm.Sweep.{hitSlot, usedBy, freeBy, Spans, Spanned, Granted, Slotted};
 
 // A fragment from s to e at position x, with slot k: it covers column c, entered before the turn, and its slot is b.
 fn hit_slot(s: usize, e: usize, x: usize, k: usize, c: usize, turn: usize, b: usize) -> bool
@@ -26,8 +25,6 @@ fn hit_slot(s: usize, e: usize, x: usize, k: usize, c: usize, turn: usize, b: us
 // Slot b is used at column c by a fragment that entered before the turn.
 fn is_used(
     m: usize,
-    n: usize,
-    cells: &[u8],
     starts: &[usize],
     ends: &[usize],
     slots: &[usize],
@@ -35,8 +32,8 @@ fn is_used(
     turn: usize,
     b: usize,
 ) -> bool
-    requires { ⌜ Matrix m n (now cells) × Spanned (matrixGrid m n (now cells)) (now starts) (now ends) × (length (now slots) ≡ 128) ⌝ }
-    ensures { λ r. ⌜ r ≡ used (firstColumn (matrixGrid m n (now (cells .entry)))) (covers (matrixGrid m n (now (cells .entry)))) m c turn (nth (now (slots .entry))) b ⌝ }
+    requires { ⌜ Spans m (now starts) (now ends) (now slots) ⌝ }
+    ensures { λ r. ⌜ r ≡ usedBy m (now (starts .entry)) (now (ends .entry)) (now (slots .entry)) c turn b ⌝ }
 {
     let mut x = 0;
     while x < m {
@@ -51,20 +48,18 @@ fn is_used(
 // The lowest free slot at column c, and 8 where none is.
 fn free_slot(
     m: usize,
-    n: usize,
-    cells: &[u8],
     starts: &[usize],
     ends: &[usize],
     slots: &[usize],
     c: usize,
     turn: usize,
 ) -> usize
-    requires { ⌜ Matrix m n (now cells) × Spanned (matrixGrid m n (now cells)) (now starts) (now ends) × (length (now slots) ≡ 128) ⌝ }
-    ensures { λ r. ⌜ r ≡ freeSlot (firstColumn (matrixGrid m n (now (cells .entry)))) (covers (matrixGrid m n (now (cells .entry)))) m 8 c turn (nth (now (slots .entry))) ⌝ }
+    requires { ⌜ Spans m (now starts) (now ends) (now slots) ⌝ }
+    ensures { λ r. ⌜ r ≡ freeBy m (now (starts .entry)) (now (ends .entry)) (now (slots .entry)) c turn ⌝ }
 {
     let mut b = 0;
     while b < 8 {
-        if !is_used(m, n, cells, starts, ends, slots, c, turn, b) {
+        if !is_used(m, starts, ends, slots, c, turn, b) {
             return b;
         }
         b += 1;
@@ -89,7 +84,7 @@ fn slot_one(
 {
     let s = starts[f];
     if s == c {
-        let b = free_slot(m, n, cells, starts, ends, slots, c, c * 256 + f);
+        let b = free_slot(m, starts, ends, slots, c, c * 256 + f);
         slots[f] = b;
     }
 }

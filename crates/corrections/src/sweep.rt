@@ -14,13 +14,11 @@ ghost use Rattle.events.specs.Algorithm.Events.{eventsFrom, events, partOf};
 ghost use Rattle.events.specs.Algorithm.Weights.{sideWeight};
 ghost use Rattle.events.specs.Algorithm.Slots.{entered};
 ghost use Rattle.corrections.specs.Algorithm.Columns.{firstColumn};
-ghost use Rattle.corrections.specs.Algorithm.Sweep.{Spanned, Slotted, Gathered, Ready, HoldsAll};
+ghost use Rattle.corrections.specs.Algorithm.Sweep.{Gathering, withLetter, GathersAll, Ready, HoldsAll};
 ghost use Rattle.patterns.specs.Algorithm.Patterns.{Patterns, Alone, PatternRoom, PatternsRoom, enteredAt, slotCost};
 
 // The letter of fragment i at column c goes to its slot, if it covers the column.
 fn gather_one(
-    m: usize,
-    n: usize,
     cells: &[u8],
     starts: &[usize],
     ends: &[usize],
@@ -29,9 +27,8 @@ fn gather_one(
     c: usize,
     i: usize,
 )
-    requires { ⌜ Matrix m n (now cells) × Spanned (matrixGrid m n (now cells)) (now starts) (now ends) × Slotted (matrixGrid m n (now cells)) (now slots) × (c < n) × (i < m)
-        × Gathered (matrixGrid m n (now cells)) (now slots) c i (now letters) ⌝ }
-    ensures { λ _. ⌜ Gathered (matrixGrid m n (now (cells .entry))) (now (slots .entry)) c (i + 1) (now (letters .exit)) ⌝ }
+    requires { ⌜ Gathering (now cells) (now starts) (now ends) (now slots) (now letters) c × (i < 128) ⌝ }
+    ensures { λ _. ⌜ now (letters .exit) ≡ withLetter (now (cells .entry)) (now (starts .entry)) (now (ends .entry)) (now (slots .entry)) c i (now (letters .entry)) ⌝ }
 {
     if starts[i] <= c {
         if c < ends[i] {
@@ -44,7 +41,6 @@ fn gather_one(
 // The letters of column c, slot by slot, from letters that are all 0.
 fn gather(
     m: usize,
-    n: usize,
     cells: &[u8],
     starts: &[usize],
     ends: &[usize],
@@ -52,13 +48,12 @@ fn gather(
     letters: &mut [u8],
     c: usize,
 )
-    requires { ⌜ Matrix m n (now cells) × Spanned (matrixGrid m n (now cells)) (now starts) (now ends) × Slotted (matrixGrid m n (now cells)) (now slots) × (c < n)
-        × Gathered (matrixGrid m n (now cells)) (now slots) c 0 (now letters) ⌝ }
-    ensures { λ _. ⌜ Gathered (matrixGrid m n (now (cells .entry))) (now (slots .entry)) c m (now (letters .exit)) ⌝ }
+    requires { ⌜ (m ≤ 128) × Gathering (now cells) (now starts) (now ends) (now slots) (now letters) c ⌝ }
+    ensures { λ _. ⌜ GathersAll m (now (cells .entry)) (now (starts .entry)) (now (ends .entry)) (now (slots .entry)) c (now (letters .entry)) (now (letters .exit)) ⌝ }
 {
     let mut i = 0;
     while i < m {
-        gather_one(m, n, cells, starts, ends, slots, letters, c, i);
+        gather_one(cells, starts, ends, slots, letters, c, i);
         i += 1;
     }
 }
@@ -108,7 +103,7 @@ fn column(
         (at (now (counts .exit)) (now (highs .exit)) (now (lows .exit))) ⌝ }
 {
     let mut letters = [0u8; 8];
-    gather(m, n, cells, starts, ends, slots, &mut letters, c);
+    gather(m, cells, starts, ends, slots, &mut letters, c);
     charge(&letters, counts, highs, lows);
     let mut f = m;
     while 0 < f {

@@ -3,7 +3,7 @@ ghost use mathlib.Core.Path.{_≡_};
 ghost use Prim.Native.Nat.{_≤_};
 ghost use lib.ListN.{length, replicate};
 ghost use Rattle.records.specs.Outcome.{outcomeOf};
-ghost use Rattle.conflicts.specs.Choice.{keepAll, zeros};
+ghost use Rattle.conflicts.specs.Choice.{zeros};
 ghost use Rattle.conflicts.specs.Grid.{gridOf};
 ghost use Rattle.conflicts.specs.Removal.{fragmentKeepMarks};
 ghost use Rattle.conflicts.specs.Answer.{answerSize, fragmentAnswer};
@@ -25,7 +25,6 @@ fn phase_fragments(
     m: usize,
     table: &[u8],
     cells: &[u8],
-    cols: &[u8],
     work: &mut [u16],
     keep: &mut [u8],
     answer: &mut [u8],
@@ -33,7 +32,6 @@ fn phase_fragments(
     requires { ⌜ SizesKept n m (now table) ⌝ }
     requires { ⌜ RecordsKept n (now table) ⌝ }
     requires { ⌜ now cells ≡ tableCells n (now table) ⌝ }
-    requires { ⌜ now cols ≡ keepAll n ⌝ }
     requires { ⌜ 32768 ≤ length (now work) ⌝ }
     requires { ⌜ length (now keep) ≡ m ⌝ }
     requires { ⌜ length (now answer) ≡ answerSize m n ⌝ }
@@ -41,8 +39,9 @@ fn phase_fragments(
     ensures work { λ _. ⌜ now (work .exit) ≡ replicate (length (now (work .entry))) 0 ⌝ }
     ensures answer { λ _. ⌜ now (answer .exit) ≡ fragmentAnswer (gridOf n (now (table .entry))) ⌝ }
 {
+    let cols = all_kept();
     let count = fragment_keep_marks(m, n, cells, work, keep);
-    phase(m, n, cells, cols, keep, answer);
+    phase(m, n, cells, &cols[0..n], keep, answer);
     count
 }
 
@@ -57,19 +56,9 @@ fn remove_fragments(n: usize, m: usize, table: &[u8], work: &mut [u16], answer: 
     ensures answer { λ _. ⌜ now (answer .exit) ≡ fragmentAnswer (gridOf n (now (table .entry))) ⌝ }
 {
     let mut cells = blank_cells();
-    let cols = all_kept();
     let mut keep = all_kept();
     fill_matrix(n, table, &mut cells);
-    phase_fragments(
-        n,
-        m,
-        table,
-        &cells,
-        &cols[0..n],
-        work,
-        &mut keep[0..m],
-        answer,
-    )
+    phase_fragments(n, m, table, &cells, work, &mut keep[0..m], answer)
 }
 
 // Accepted with the number of removed fragments, the answer's 3n + 2m bytes, and the work all zero. A refusal writes nothing.

@@ -17,8 +17,7 @@ returns-2 : tie.Need-returns-2
 unfolding marked
 returns-2 c =
     let byte = c .before .before .before .before .byte in
-    let start = c .before .before .before .before .before .before .before .before in
-    let a = start .args in
+    let a = c .before .before .before .before .before .before .before .before .args in
     let b = callsConflict (getD (a .first .now) (a .c) 0) (getD (a .second .now) (a .c) 0) in
     c .calls-conflict .ensures
     ∙ ap₂ callsConflict (c .before .before .byte2 .ensures) (c .before .byte3 .ensures)

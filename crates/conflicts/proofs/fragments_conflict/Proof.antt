@@ -30,17 +30,15 @@ loop-holds c = (search needs, none-yet _)
 returns : tie.Need-returns Inv-loop μ-loop
 unfolding rowsConflict test
 returns c =
-    let start = c .before .before .before .before .before .before .before in
     let lp = c .before .before .before .loop in
-    let a = start .args in
+    let a = c .before .before .before .before .before .before .before .args in
     sym (any-hit (length (a .marks .now)) (test (a .first .now) (a .second .now) (a .marks .now)) (lp .c) (c .before .before .loop-test .taken) (sym (c .before .conflict-at .ensures) ∙ c .if1 .taken))
 
 loop-again : tie.Need-loop-again Inv-loop μ-loop
 unfolding test
 loop-again c =
-    let start = c .before .before .before .before .before .before .before in
     let lp = c .before .before .before .loop in
-    let a = start .args in
+    let a = c .before .before .before .before .before .before .before .args in
     (search needs, none-more (lp .c) (test (a .first .now) (a .second .now) (a .marks .now)) (lp .inv .1) (sym (c .before .conflict-at .ensures) ∙ c .if1 .left))
 
 returns-2 : tie.Need-returns-2 Inv-loop μ-loop

@@ -12,8 +12,7 @@ use Rattle.snp_removal.proofs.snp_keep_marks.Tie as tie
 
 suffixes-requires : tie.Need-suffixes-requires
 suffixes-requires c κs =
-    let start = c .before .before .before .before .before in
-    let p = start .pre in
+    let p = c .before .before .before .before .before .pre in
     (p .0 .size, p .0 .rows, p .0 .columns, record { counts-size = search needs; highs-size = search needs; lows-size = search needs }, holds-none _ _ (zeros-at 129 129 129))
 
 returns : tie.Need-returns

@@ -23,13 +23,11 @@ slice-write-labels c = let e = c .before .before .before .loop .inv .1 .sized in
 
 slice-write-sides : tie.Need-slice-write-sides Inv-loop μ-loop
 slice-write-sides c =
-    let loop = c .before .before .before .before .loop in
-    let e = loop .inv .2 .sized in search needs
+    let e = c .before .before .before .before .loop .inv .2 .sized in search needs
 
 loop-again : tie.Need-loop-again Inv-loop μ-loop
 loop-again c =
-    let loop = c .before .before .before .before .loop in
-    let lp = loop in
+    let lp = c .before .before .before .before .loop in
     let e = lp .inv .1 .sized in
     let f = lp .inv .2 .sized in
     (search needs, sweep-set (lp .labels) (lp .k) _ (lp .inv .1) (search needs) (c .before .own-label .ensures), sweep-set (lp .sides) (lp .k) _ (lp .inv .2) (search needs) (c .own-side .ensures))

@@ -25,8 +25,7 @@ loop-holds c =
 
 join-requires : tie.Need-join-requires Inv-loop μ-loop
 join-requires c κs =
-    let start = c .before .before .before .before .before .before .before .before .before .before .before .before .before .before .before in
-    let p = start .pre in
+    let p = c .before .before .before .before .before .before .before .before .before .before .before .before .before .before .before .pre in
     (p .0, p .1, search needs, search needs, search needs, p .5)
 
 loop-again : tie.Need-loop-again Inv-loop μ-loop

@@ -28,20 +28,16 @@ slice-read-new-side c = let e = c .before .before .before .loop .inv .2 .sized i
 
 slice-write-sides : tie.Need-slice-write-sides Inv-loop μ-loop
 slice-write-sides c =
-    let loop = c .before .before .before .before .loop in
-    let e = loop .inv .2 .sized in search needs
+    let e = c .before .before .before .before .loop .inv .2 .sized in search needs
 
 slice-write-labels : tie.Need-slice-write-labels Inv-loop μ-loop
 slice-write-labels c =
-    let loop = c .before .before .before .before .before .loop in
-    let e = loop .inv .1 .sized in search needs
+    let e = c .before .before .before .before .before .loop .inv .1 .sized in search needs
 
 loop-again : tie.Need-loop-again Inv-loop μ-loop
 loop-again c =
-    let loop = c .before .before .before .before .before .loop in
-    let start = c .before .before .before .before .before .before .before .before in
-    let lp = loop in
-    let a = start .args in
+    let lp = c .before .before .before .before .before .loop in
+    let a = c .before .before .before .before .before .before .before .before .args in
     let e = lp .inv .1 .sized in
     let f = lp .inv .2 .sized in
     let el : nth (lp .labels) (lp .k) ≡ nth (a .labels .now) (lp .k) = lp .inv .1 .rest (lp .k) (le-refl (lp .k)) in

@@ -3,12 +3,16 @@
 use mathlib.Core.Path.{sym, _∙_}
 use borrow.Author.Needs.{needs}
 use Rattle.matrix.specs.Algorithm.Matrix.{matrixGrid}
-use Rattle.corrections.proofs.GrantLaws.{grant, pass}
+use Rattle.corrections.proofs.GrantLaws.{free-is, spans-of, grant, pass}
 use Rattle.corrections.proofs.slots.slot_one.Statement.{statement}
 use Rattle.corrections.proofs.slots.slot_one.Tie as tie
 
 free-slot-requires : tie.Need-free-slot-requires
-free-slot-requires c κs = let s = c .before .before .before .before .before .before .before in (s .pre .0, s .pre .1, s .pre .5 .size)
+unfolding matrixGrid
+free-slot-requires c κs =
+    let s = c .before .before .before .before .before .before .before in
+    let a = s .args in
+    spans-of (matrixGrid (a .m) (a .n) (a .cells .now)) (a .starts .now) (a .ends .now) (s .pre .1) (s .pre .0 .rows) (s .pre .0 .columns) (s .pre .5 .size)
 
 returns : tie.Need-returns
 unfolding matrixGrid
@@ -16,7 +20,7 @@ returns c =
     let s = c .before .before .before .before .before .before .before .before in
     let a = s .args in
     grant (matrixGrid (a .m) (a .n) (a .cells .now)) (s .pre .0 .rows) (a .slots .now) (a .c) (a .f) (c .free-slot .result) (s .pre .2) (s .pre .3) (s .pre .4)
-    (sym (s .pre .1 .begins (a .f) (s .pre .4)) ∙ c .before .before .if1 .taken) (c .free-slot .ensures) (s .pre .5)
+    (sym (s .pre .1 .begins (a .f) (s .pre .4)) ∙ c .before .before .if1 .taken) (c .free-slot .ensures ∙ free-is (matrixGrid (a .m) (a .n) (a .cells .now)) (a .starts .now) (a .ends .now) (s .pre .1) (a .slots .now) (a .c) _) (s .pre .5)
 
 returns-2 : tie.Need-returns-2
 unfolding matrixGrid

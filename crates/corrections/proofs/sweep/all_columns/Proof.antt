@@ -28,10 +28,9 @@ loop-holds c = let s = c .before .before .before .before .before .before .before
 
 column-requires : tie.Need-column-requires Inv-loop μ-loop
 column-requires c κs =
-    let loop = c .before .before .before .before .loop in
     let s = c .before .before .before .before .before .before .before .before .before .before .before .before in
     let a = s .args in
-    let l = loop in
+    let l = c .before .before .before .before .loop in
     let le = l .inv .0 in
     let some = c .before .before .before .loop-test .taken in
     let e : l .c ≡ l .c - 1 + 1 = omega arith in (
@@ -43,14 +42,8 @@ column-requires c κs =
 
 loop-again : tie.Need-loop-again Inv-loop μ-loop
 loop-again c =
-    let column-step = c .before .before .before .before .before .before .column in
-    let loop = c .before .before .before .before .before .before .before .before .before .before .before .loop in
-    let l = loop in
-    let le = l .inv .0 in (
-      omega arith,
-      record { counts-size = search needs; highs-size = search needs; lows-size = search needs },
-      column-step .ensures,
-    )
+    let le = c .before .before .before .before .before .before .before .before .before .before .before .loop .inv .0 in
+    (omega arith, record { counts-size = search needs; highs-size = search needs; lows-size = search needs }, c .before .before .before .before .before .before .column .ensures)
 
 returns : tie.Need-returns Inv-loop μ-loop
 unfolding matrixGrid

@@ -1,6 +1,8 @@
 -- `sweep::column` meets its contract. The loop's invariant: the table holds the least weights from the events of fragment f at the column on.
 -- Assumes nothing.
 use mathlib.Core.Path.{_≡_, refl, subst}
+use mathlib.Core.List.{List}
+use lib.ListN.{replicate}
 use Prim.Native.Nat.{ℕ, _+_, _-_, _≤_}
 use native.Mathlib.Nat.{le-refl}
 use native.Mathlib.Omega.{arith}
@@ -10,7 +12,7 @@ use Rattle.ranks.specs.Algorithm.Tables.{at}
 use Rattle.events.specs.Algorithm.Events.{partOf}
 use Rattle.corrections.specs.Algorithm.Columns.{firstColumn}
 use Rattle.patterns.specs.Algorithm.Patterns.{Patterns}
-use Rattle.corrections.specs.Algorithm.Sweep.{HoldsAll}
+use Rattle.corrections.specs.Algorithm.Sweep.{Spanned, Gathered, GathersAll, HoldsAll}
 use Rattle.corrections.proofs.GrantLaws.{zeros-at, gathered-none}
 use Rattle.corrections.proofs.StepLaws.{column-room, step-charge, step-column}
 use Rattle.corrections.proofs.sweep.column.Statement.{statement}
@@ -27,9 +29,25 @@ abbrev μ-loop : tie.MeasureT-loop
 gather-requires : tie.Need-gather-requires Inv-loop μ-loop
 gather-requires c κs =
     let s = c .before .before .before .before .before .before .before .before in
-    let a = s .args in
     let r = s .pre .0 in
-    (r .matrix, r .spanned, r .slotted, s .pre .2, gathered-none (matrixGrid (a .m) (a .n) (a .cells .now)) (a .slots .now) (a .c) _ refl (λ b. zeros-at 8 b))
+    let narrow = r .matrix .columns in
+    let lt = s .pre .2 in (
+      r .matrix .rows,
+      record {
+        cells-size = r .matrix .size;
+        starts-size = r .spanned .starts-size;
+        ends-size = r .spanned .ends-size;
+        slots-size = r .slotted .size;
+        letters-size = refl;
+        low = r .slotted .low;
+        column = omega arith;
+      },
+    )
+
+-- the letters of the column, from letters that are all 0
+gathered-all : {m : ℕ} {cells starts ends slots letters : List ℕ} (n c : ℕ) → Spanned (matrixGrid m n cells) starts ends → GathersAll m cells starts ends slots c (replicate 8 0) letters
+    → Gathered (matrixGrid m n cells) slots c m letters
+gathered-all {m} {cells} {slots = slots} n c sp gathers = gathers .on n sp (gathered-none (matrixGrid m n cells) slots c _ refl (λ b. zeros-at 8 b))
 
 charge-requires : tie.Need-charge-requires Inv-loop μ-loop
 unfolding matrixGrid
@@ -39,7 +57,7 @@ charge-requires c κs =
     let a = s .args in
     let r = s .pre .0 in
     let lt = s .pre .2 in
-    (gather .ensures .size, s .pre .1, column-room (matrixGrid (a .m) (a .n) (a .cells .now)) (a .slots .now) (r .shallow) (r .matrix .rows) (r .matrix .columns) (a .c + 1) (a .n - (a .c + 1)) (at (a .counts .now) (a .highs .now) (a .lows .now)) (omega arith) (s .pre .3))
+    (gathered-all (a .n) (a .c) (r .spanned) (gather .ensures) .size, s .pre .1, column-room (matrixGrid (a .m) (a .n) (a .cells .now)) (a .slots .now) (r .shallow) (r .matrix .rows) (r .matrix .columns) (a .c + 1) (a .n - (a .c + 1)) (at (a .counts .now) (a .highs .now) (a .lows .now)) (omega arith) (s .pre .3))
 
 loop-holds : tie.Need-loop-holds Inv-loop μ-loop
 unfolding matrixGrid
@@ -50,15 +68,14 @@ loop-holds c =
     let a = s .args in (
       le-refl _,
       record { counts-size = search needs; highs-size = search needs; lows-size = search needs },
-      step-charge (matrixGrid (a .m) (a .n) (a .cells .now)) (a .slots .now) (s .pre .0 .slotted) _ (a .c) (a .n - (a .c + 1)) (at (a .counts .now) (a .highs .now) (a .lows .now)) _ (s .pre .2) (gather .ensures) (s .pre .3) (charge .ensures),
+      step-charge (matrixGrid (a .m) (a .n) (a .cells .now)) (a .slots .now) (s .pre .0 .slotted) _ (a .c) (a .n - (a .c + 1)) (at (a .counts .now) (a .highs .now) (a .lows .now)) _ (s .pre .2) (gathered-all (a .n) (a .c) (s .pre .0 .spanned) (gather .ensures)) (s .pre .3) (charge .ensures),
     )
 
 enter-if-requires : tie.Need-enter-if-requires Inv-loop μ-loop
 enter-if-requires c κs =
-    let loop = c .before .before .before .before .loop in
     let s = c .before .before .before .before .before .before .before .before .before .before .before .before .before .before .before .before .before .before .before .before .before .before .before .before .before .before in
     let a = s .args in
-    let l = loop in
+    let l = c .before .before .before .before .loop in
     let le = l .inv .0 in
     let some = c .before .before .before .loop-test .taken in
     let e : l .f ≡ l .f - 1 + 1 = omega arith in (
@@ -71,14 +88,8 @@ enter-if-requires c κs =
 
 loop-again : tie.Need-loop-again Inv-loop μ-loop
 loop-again c =
-    let enter-if = c .before .before .before .before .before .before .enter-if in
-    let loop = c .before .before .before .before .before .before .before .before .before .before .before .loop in
-    let l = loop in
-    let le = l .inv .0 in (
-      omega arith,
-      record { counts-size = search needs; highs-size = search needs; lows-size = search needs },
-      enter-if .ensures,
-    )
+    let le = c .before .before .before .before .before .before .before .before .before .before .before .loop .inv .0 in
+    (omega arith, record { counts-size = search needs; highs-size = search needs; lows-size = search needs }, c .before .before .before .before .before .before .enter-if .ensures)
 
 returns : tie.Need-returns Inv-loop μ-loop
 unfolding matrixGrid

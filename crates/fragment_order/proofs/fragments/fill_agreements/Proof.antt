@@ -23,19 +23,16 @@ loop-holds c = (search needs, search needs, begins-none _ _)
 
 may-join-requires : tie.Need-may-join-requires Inv-loop μ-loop
 may-join-requires c κs =
-    let start = c .before .before .before .before .before in
-    let p = start .pre in (p .0, p .1, omega arith, p .2)
+    let p = c .before .before .before .before .before .pre in (p .0, p .1, omega arith, p .2)
 
 slice-write-agrees : tie.Need-slice-write-agrees Inv-loop μ-loop
 slice-write-agrees c =
-    let start = c .before .before .before .before .before .before in
-    let h = start .pre .0 .rows in omega arith
+    let h = c .before .before .before .before .before .before .pre .0 .rows in omega arith
 
 loop-again : tie.Need-loop-again Inv-loop μ-loop
 loop-again c =
-    let start = c .before .before .before .before .before .before in
     let l = c .before .before .loop in
-    let h = start .pre .0 .rows in
+    let h = c .before .before .before .before .before .before .pre .0 .rows in
     (search needs, search needs, begins-more _ (l .s) (l .agrees) _ (l .inv .2) (omega arith) (c .may-join .ensures))
 
 returns : tie.Need-returns Inv-loop μ-loop

@@ -23,19 +23,16 @@ loop-holds c = (search needs, search needs, begins-none _ _)
 
 state-reach-requires : tie.Need-state-reach-requires Inv-loop μ-loop
 state-reach-requires c κs =
-    let start = c .before .before .before .before .before in
-    let p = start .pre in (p .0, p .1, omega arith)
+    let p = c .before .before .before .before .before .pre in (p .0, p .1, omega arith)
 
 slice-write-reaches : tie.Need-slice-write-reaches Inv-loop μ-loop
 slice-write-reaches c =
-    let start = c .before .before .before .before .before .before in
-    let h = start .pre .0 .rows in omega arith
+    let h = c .before .before .before .before .before .before .pre .0 .rows in omega arith
 
 loop-again : tie.Need-loop-again Inv-loop μ-loop
 loop-again c =
-    let start = c .before .before .before .before .before .before in
     let l = c .before .before .loop in
-    let h = start .pre .0 .rows in
+    let h = c .before .before .before .before .before .before .pre .0 .rows in
     (search needs, search needs, begins-more _ (l .s) (l .reaches) _ (l .inv .2) (omega arith) (c .state-reach .ensures))
 
 returns : tie.Need-returns Inv-loop μ-loop

@@ -14,13 +14,11 @@ returns c = join-none _ _ _ _ (c .if1 .taken)
 
 shared-slice-read-wide : tie.Need-shared-slice-read-wide
 shared-slice-read-wide c =
-    let start = c .before .before .before .before in
-    let s = start .pre in let r = s .0 .rows in let z = s .1 .size in omega arith
+    let s = c .before .before .before .before .pre in let r = s .0 .rows in let z = s .1 .size in omega arith
 
 shared-slice-read-wide-2 : tie.Need-shared-slice-read-wide-2
 shared-slice-read-wide-2 c =
-    let start = c .before .before .before .before .before .before in
-    let s = start .pre in let r = s .0 .rows in let z = s .1 .size in omega arith
+    let s = c .before .before .before .before .before .before .pre in let r = s .0 .rows in let z = s .1 .size in omega arith
 
 positions-conflict-requires : tie.Need-positions-conflict-requires
 positions-conflict-requires c κs =

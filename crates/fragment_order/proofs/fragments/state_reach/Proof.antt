@@ -12,8 +12,7 @@ returns c = state-none _ _ _ (c .if1 .taken)
 
 shared-slice-read-wide : tie.Need-shared-slice-read-wide
 shared-slice-read-wide c =
-    let start = c .before .before .before .before in
-    let s = start .pre in let r = s .0 .rows in let z = s .1 .size in omega arith
+    let s = c .before .before .before .before .pre in let r = s .0 .rows in let z = s .1 .size in omega arith
 
 reach-of-requires : tie.Need-reach-of-requires
 reach-of-requires c κs =
@@ -26,8 +25,7 @@ reach-of-requires c κs =
 
 cast-result : tie.Need-cast-result
 cast-result c =
-    let start = c .before .before .before .before .before .before in
-    let r = start .pre .0 .columns in omega arith
+    let r = c .before .before .before .before .before .before .pre .0 .columns in omega arith
 
 returns-2 : tie.Need-returns-2
 returns-2 c =

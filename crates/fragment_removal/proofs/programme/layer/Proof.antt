@@ -28,8 +28,7 @@ loop-holds c = (search needs, refl, refl, refl, rows-none _ _ _)
 
 row-requires : tie.Need-row-requires Inv-loop μ-loop
 row-requires c κs =
-    let loop = c .before .before .before .before .loop in
-    let l = loop in
+    let l = c .before .before .before .before .loop in
     let s = c .before .before .before .before .before .before .before .before .before .before in
     let a = s .args in
     let p = s .pre in
@@ -39,8 +38,7 @@ row-requires c κs =
 loop-again : tie.Need-loop-again Inv-loop μ-loop
 loop-again c =
     let row = c .before .before .before .before .before .before .row in
-    let loop = c .before .before .before .before .before .before .before .before .before .before .before .loop in
-    let l = loop in
+    let l = c .before .before .before .before .before .before .before .before .before .before .before .loop in
     let s = c .before .before .before .before .before .before .before .before .before .before .before .before .before .before .before .before .before in
     let a = s .args in (
       search needs,

@@ -13,8 +13,7 @@ use Rattle.fragment_removal.proofs.programme.least.Tie as tie
 suffixes-requires : tie.Need-suffixes-requires
 suffixes-requires c κs =
     let clear = c .before .before .before .before .before .clear in
-    let start = c .before .before .before .before .before .before .before .before .before .before .before .before in
-    let p = start .pre in (
+    let p = c .before .before .before .before .before .before .before .before .before .before .before .before .pre in (
       p .0,
       record { counts-size = let z = p .2 in search needs; highs-size = search needs; lows-size = search needs },
       holds-none _ _ _ (zeros-pairs _ _ (clear .ensures)),
@@ -22,13 +21,11 @@ suffixes-requires c κs =
 
 get-requires : tie.Need-get-requires
 get-requires c κs =
-    let start = c .before .before .before .before .before .before .before .before .before .before .before .before .before .before .before .before .before .before .before .before in
-    let z = start .pre .2 in search needs
+    let z = c .before .before .before .before .before .before .before .before .before .before .before .before .before .before .before .before .before .before .before .before .pre .2 in search needs
 
 decode-requires : tie.Need-decode-requires
 decode-requires c κs =
-    let start = c .before .before .before .before .before .before .before .before .before .before .before .before .before .before .before .before .before .before .before .before .before .before in
-    let p = start .pre in (p .0 .matrix .rows, p .3)
+    let p = c .before .before .before .before .before .before .before .before .before .before .before .before .before .before .before .before .before .before .before .before .before .before .pre in (p .0 .matrix .rows, p .3)
 
 same-length : tie.Need-same-length
 same-length c = search needs

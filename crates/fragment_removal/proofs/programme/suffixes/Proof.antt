@@ -26,14 +26,12 @@ loop-holds c =
 extend-requires : tie.Need-extend-requires Inv-loop μ-loop
 extend-requires c κs =
     let loop = c .before .before .before .before .loop in
-    let start = c .before .before .before .before .before .before .before .before .before .before .before in
-    let p = start .pre in
+    let p = c .before .before .before .before .before .before .before .before .before .before .before .pre in
     (p .0, search needs, record { counts-size = let z = p .1 .counts-size in search needs; highs-size = let z = p .1 .highs-size in search needs; lows-size = let z = p .1 .lows-size in search needs }, loop .inv .4)
 
 add-k : tie.Need-add-k Inv-loop μ-loop
 add-k c =
-    let start = c .before .before .before .before .before .before .before .before .before .before .before .before .before .before .before .before .before .before in
-    let h = start .pre .0 .matrix .rows in search needs
+    let h = c .before .before .before .before .before .before .before .before .before .before .before .before .before .before .before .before .before .before .pre .0 .matrix .rows in search needs
 
 loop-again : tie.Need-loop-again Inv-loop μ-loop
 loop-again c =
@@ -42,9 +40,8 @@ loop-again c =
 
 returns : tie.Need-returns Inv-loop μ-loop
 returns c =
-    let start = c .before .before .before .before .before .before .before .before in
     let l = c .before .loop in
-    let a = start .args in
+    let a = c .before .before .before .before .before .before .before .before .args in
     subst (λ (k : ℕ). HoldsFragments (matrixGrid (a .m) (a .n) (a .cells .now)) (nth (a .order .now)) k (pairs (l .counts) (l .highs) (l .lows))) (le-antisymm (l .inv .0) (c .loop-test .left)) (l .inv .4)
 
 pub suffixes-spec : {M : Type 1} → statement M

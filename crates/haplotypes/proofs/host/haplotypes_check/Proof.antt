@@ -10,17 +10,13 @@ use Rattle.haplotypes.proofs.host.haplotypes_check.Tie as tie
 
 host-number-requires : tie.Need-host-number-requires
 host-number-requires c κs =
-    let start = c .before .before .before .before .before .before in
-    let a = start .args in
-    (omega arith, subst (HostFits 1000) (sym (c .before .before .check .ensures .0)) (check-fits (a .n) (a .table .now) (a .answer .now)))
+    (omega arith, subst (HostFits 1000) (sym (c .before .before .check .ensures .0)) (check-fits _ _ _))
 
 returns : tie.Need-returns
 returns c =
-    let start = c .before .before .before .before .before .before .before in
-    let a = start .args in
     let e = c .before .before .before .check .ensures in
     let number = c .host-number .ensures ∙ ap (hostNumber 1000) (e .0) in
-    (number, (host-read 1000 (check-fits (a .n) (a .table .now) (a .answer .now)) number, e .1 .0))
+    (number, (host-read 1000 (check-fits _ _ _) number, e .1 .0))
 
 pub haplotypes-check-spec : {M : Type 1} → statement M
 haplotypes-check-spec =

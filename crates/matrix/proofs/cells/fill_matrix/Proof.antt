@@ -30,12 +30,10 @@ part-fill-row-end c = let e = c .before .before .loop .inv .sized in omega arith
 loop-again : tie.Need-loop-again Inv-loop μ-loop
 loop-again c =
     let record-at = c .before .before .before .before .record-at in
-    let loop = c .before .before .before .before .before .before .loop in
-    let start = c .before .before .before .before .before .before .before .before .before in
     let w = c .before .before .fill-row in
     let r = record-at in
-    let l = loop in
-    let a = start .args in
+    let l = c .before .before .before .before .before .before .loop in
+    let a = c .before .before .before .before .before .before .before .before .before .args in
     let s = l .inv .sized in
     let from = 128 * l .i in
     let e : from + 128 ≡ 128 * (l .i + 1) = omega arith in

@@ -11,8 +11,7 @@ use Rattle.packing.proofs.finding.find.Tie as tie
 returns : tie.Need-returns
 unfolding findLeaves
 returns c =
-    let start = c .before .before .before in
-    let table = start .args .table in
+    let table = c .before .before .before .args .table in
     subst (λ (i : ℕ). Part table (partStart (table .now) i) (partLength (table .now) i) (c .record-at .result)) (c .before .position-of .ensures) (c .record-at .ensures)
 
 pub find-spec : {M : Type 1} → statement M

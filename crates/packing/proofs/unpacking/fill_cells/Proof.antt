@@ -77,9 +77,8 @@ same-length c =
 
 returns : tie.Need-returns Inv-loop μ-loop
 returns c =
-    let start = c .before .before .before .before in
     let l = c .before .loop in
-    let a = start .args in
+    let a = c .before .before .before .before .args in
     let cells = unpackedCells (a .n) (a .table .now) in
     let e = l .inv .0 in
     let h : fragments (a .table .now) ≤ l .i = omega arith in

@@ -42,9 +42,8 @@ plus-requires c κs =
     let mask-cost = c .before .before .before .before .mask-cost in
     let get = c .before .before .before .before .before .get in
     let loop-test = c .before .before .before .before .before .before .before .before .before .loop-test in
-    let loop = c .before .before .before .before .before .before .before .before .before .before .loop in
     let s = c .before .before .before .before .before .before .before .before .before .before .before .before .before .before .before in
-    let l = loop in
+    let l = c .before .before .before .before .before .before .before .before .before .before .loop in
     charge-fits (counted .result) (get .result) (mask-cost .result) (search needs) (search needs) (search needs) (search needs) (counted .ensures) (mask-cost .ensures .1)
     (get .ensures ∙ l .inv .2 .rest (l .mask) (λ lo hi. omega arith)) (s .pre .2 .room (l .mask) zero-le (loop-test .taken))
 
@@ -54,9 +53,8 @@ put-requires c κs =
     let mask-cost = c .before .before .before .before .before .mask-cost in
     let get = c .before .before .before .before .before .before .get in
     let loop-test = c .before .before .before .before .before .before .before .before .before .before .loop-test in
-    let loop = c .before .before .before .before .before .before .before .before .before .before .before .loop in
     let s = c .before .before .before .before .before .before .before .before .before .before .before .before .before .before .before .before in
-    let l = loop in
+    let l = c .before .before .before .before .before .before .before .before .before .before .before .loop in
     let lt = loop-test .taken in (
       inside-of (l .inv .1) lt,
       charge-count (c .plus .result) (mask-cost .result) (search needs) (search needs) (mask-cost .ensures .1)
@@ -71,8 +69,7 @@ loop-again c =
     let mask-cost = c .before .before .before .before .before .before .before .before .before .before .before .before .mask-cost in
     let get = c .before .before .before .before .before .before .before .before .before .before .before .before .before .get in
     let loop-test = c .before .before .before .before .before .before .before .before .before .before .before .before .before .before .before .before .before .loop-test in
-    let loop = c .before .before .before .before .before .before .before .before .before .before .before .before .before .before .before .before .before .before .loop in
-    let l = loop in (
+    let l = c .before .before .before .before .before .before .before .before .before .before .before .before .before .before .before .before .before .before .loop in (
       let lt = loop-test .taken in omega arith,
       patterns-put (put .ensures .0) (l .inv .1),
       sweep-more zero-le (l .inv .2) (put-as (put .ensures .1)
@@ -81,9 +78,8 @@ loop-again c =
 
 returns : tie.Need-returns Inv-loop μ-loop
 returns c =
-    let start = c .before .before .before .before .before .before in
     let l = c .before .loop in
-    let a = start .args in
+    let a = c .before .before .before .before .before .before .args in
     let v = (at (a .counts .now) (a .highs .now) (a .lows .now)) in
     let le = l .inv .0 in
     let e : l .mask ≡ 256 = omega arith in

@@ -29,9 +29,8 @@ loop-holds c =
 
 entered-at-requires : tie.Need-entered-at-requires Inv-loop μ-loop
 entered-at-requires c κs =
-    let loop = c .before .before .before .before .loop in
     let s = c .before .before .before .before .before .before .before .before .before in
-    let l = loop in
+    let l = c .before .before .before .before .loop in
     let a = s .args in (
       l .inv .1,
       l .inv .2,
@@ -44,8 +43,7 @@ entered-at-requires c κs =
 put-requires : tie.Need-put-requires Inv-loop μ-loop
 put-requires c κs =
     let loop-test = c .before .before .before .before .before .before .before .loop-test in
-    let loop = c .before .before .before .before .before .before .before .before .loop in
-    let l = loop in
+    let l = c .before .before .before .before .before .before .before .before .loop in
     let r = c .before .before .before .entered-at in
     let few = room-parts (r .result) (search needs) (search needs) refl (r .ensures .1) .0 in
     (inside-of (l .inv .1) (loop-test .taken), omega arith)
@@ -55,9 +53,8 @@ loop-again c =
     let put = c .before .before .before .before .before .before .put in
     let entered-at = c .before .before .before .before .before .before .before .before .before .before .entered-at in
     let loop-test = c .before .before .before .before .before .before .before .before .before .before .before .before .before .before .loop-test in
-    let loop = c .before .before .before .before .before .before .before .before .before .before .before .before .before .before .before .loop in
     let s = c .before .before .before .before .before .before .before .before .before .before .before .before .before .before .before .before .before .before .before .before in
-    let l = loop in
+    let l = c .before .before .before .before .before .before .before .before .before .before .before .before .before .before .before .loop in
     let r = entered-at in
     let p = put .ensures .1 in (
       let lt = loop-test .taken in omega arith,
@@ -69,9 +66,8 @@ loop-again c =
 
 returns : tie.Need-returns Inv-loop μ-loop
 returns c =
-    let start = c .before .before .before .before .before .before in
     let l = c .before .loop in
-    let a = start .args in
+    let a = c .before .before .before .before .before .before .args in
     let v = at (a .counts .now) (a .highs .now) (a .lows .now) in
     let e : l .mask ≡ 256 = omega arith in
     subst (Sweep (entered 2 (a .b) (sideWeight (a .f)) v) v (at (l .counts) (l .highs) (l .lows)) 0) e (l .inv .3)

@@ -23,49 +23,40 @@ loop-holds c = let a = c .before .args in (zero-le, has-none (a .letters .now) (
 
 add-a1 : tie.Need-add-a1 Inv-loop μ-loop
 add-a1 c =
-    let start = c .before .before .before .before .before in
     let l = c .before .before .before .loop in
-    let a = start .args in
+    let a = c .before .before .before .before .before .args in
     let low = has-few (a .letters .now) (a .mask) 0 1 (l .b) (l .a1) (l .inv .1) in
     let one = c .hit .ensures .1 in
     omega arith
 
 add-b1 : tie.Need-add-b1 Inv-loop μ-loop
 add-b1 c =
-    let loop = c .before .before .before .before .loop in
-    let start = c .before .before .before .before .before .before in
-    let l = loop in
-    let a = start .args in
+    let l = c .before .before .before .before .loop in
+    let a = c .before .before .before .before .before .before .args in
     let low = has-few (a .letters .now) (a .mask) 0 2 (l .b) (l .b1) (l .inv .2) in
     let one = c .hit2 .ensures .1 in
     omega arith
 
 add-a2 : tie.Need-add-a2 Inv-loop μ-loop
 add-a2 c =
-    let loop = c .before .before .before .before .before .loop in
-    let start = c .before .before .before .before .before .before .before in
-    let l = loop in
-    let a = start .args in
+    let l = c .before .before .before .before .before .loop in
+    let a = c .before .before .before .before .before .before .before .args in
     let low = has-few (a .letters .now) (a .mask) 1 1 (l .b) (l .a2) (l .inv .3) in
     let one = c .hit3 .ensures .1 in
     omega arith
 
 add-b2 : tie.Need-add-b2 Inv-loop μ-loop
 add-b2 c =
-    let loop = c .before .before .before .before .before .before .loop in
-    let start = c .before .before .before .before .before .before .before .before in
-    let l = loop in
-    let a = start .args in
+    let l = c .before .before .before .before .before .before .loop in
+    let a = c .before .before .before .before .before .before .before .before .args in
     let low = has-few (a .letters .now) (a .mask) 1 2 (l .b) (l .b2) (l .inv .4) in
     let one = c .hit4 .ensures .1 in
     omega arith
 
 loop-again : tie.Need-loop-again Inv-loop μ-loop
 loop-again c =
-    let loop = c .before .before .before .before .before .before .loop in
-    let start = c .before .before .before .before .before .before .before .before in
-    let l = loop in
-    let a = start .args in (
+    let l = c .before .before .before .before .before .before .loop in
+    let a = c .before .before .before .before .before .before .before .before .args in (
       search needs,
       has-more (a .letters .now) (a .mask) 0 1 (l .b) (l .a1) _ _ _ (l .inv .1) (c .before .before .before .hit .ensures .0) refl refl,
       has-more (a .letters .now) (a .mask) 0 2 (l .b) (l .b1) _ _ _ (l .inv .2) (c .before .before .hit2 .ensures .0) refl refl,
@@ -75,9 +66,8 @@ loop-again c =
 
 price-requires : tie.Need-price-requires Inv-loop μ-loop
 price-requires c κs =
-    let start = c .before .before .before in
     let l = c .before .loop in
-    let a = start .args in
+    let a = c .before .before .before .args in
     let le = l .inv .0 in
     let p = has-few (a .letters .now) (a .mask) 0 1 (l .b) (l .a1) (l .inv .1) in
     let q = has-few (a .letters .now) (a .mask) 0 2 (l .b) (l .b1) (l .inv .2) in
@@ -87,9 +77,8 @@ price-requires c κs =
 
 returns : tie.Need-returns Inv-loop μ-loop
 returns c =
-    let start = c .before .before .before .before in
     let l = c .before .before .loop in
-    let a = start .args in
+    let a = c .before .before .before .before .args in
     let le = l .inv .0 in
     (cost-made (a .letters .now) (a .mask) (l .b) (l .a1) (l .b1) (l .a2) (l .b2) (omega arith) (l .inv .1) (l .inv .2) (l .inv .3) (l .inv .4) (c .price .ensures .0), c .price .ensures .1)
 

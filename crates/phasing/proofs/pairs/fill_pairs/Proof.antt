@@ -27,8 +27,7 @@ loop-again : tie.Need-loop-again Inv-loop μ-loop
 loop-again c =
     let loop-test = c .before .before .before .before .loop-test in
     let loop = c .before .before .before .before .before .loop in
-    let start = c .before .before .before .before .before .before .before .before .before .before in
-    let a = start .args in
+    let a = c .before .before .before .before .before .before .before .before .before .before .args in
     pair-more (a .blocks) (matrixGrid 0 (a .n) (a .cells .now)) (a .cols .now) (a .frags .now) (loop .inv) (loop-test .taken) (c .before .before .set-pair .ensures 0)
 
 same-length : tie.Need-same-length Inv-loop μ-loop

@@ -23,23 +23,19 @@ unfolding marked
 returns c =
     let loop-test = c .before .before .before .before .before .loop-test in
     let loop = c .before .before .before .before .before .before .loop in
-    let start = c .before .before .before .before .before .before .before .before .before in
-    let a = start .args in
+    let a = c .before .before .before .before .before .before .before .before .before .args in
     sym (any-hit (a .n) (columnRelates (a .blocks) (a .cells .now) (a .cols .now) (a .p) (a .q)) (loop .c) (loop-test .taken) (sym (c .before .relate-on .ensures) ∙ c .if1 .taken))
 
 loop-again : tie.Need-loop-again Inv-loop μ-loop
 unfolding marked
 loop-again c =
-    let loop = c .before .before .before .before .before .before .loop in
-    let start = c .before .before .before .before .before .before .before .before .before in
-    let a = start .args in
-    let lp = loop in
+    let a = c .before .before .before .before .before .before .before .before .before .args in
+    let lp = c .before .before .before .before .before .before .loop in
     (search needs, none-more (lp .c) (columnRelates (a .blocks) (a .cells .now) (a .cols .now) (a .p) (a .q)) (lp .inv .1) (sym (c .before .relate-on .ensures) ∙ c .if1 .left))
 
 returns-2 : tie.Need-returns-2 Inv-loop μ-loop
 returns-2 c =
-    let start = c .before .before .before .before in
-    let a = start .args in
+    let a = c .before .before .before .before .args in
     sym (any-none (a .n) (columnRelates (a .blocks) (a .cells .now) (a .cols .now) (a .p) (a .q)) (c .before .loop .c) (c .loop-test .left) (c .before .loop .inv .1))
 
 pub rows-relate-spec : {M : Type 1} → statement M

@@ -10,9 +10,8 @@ use Rattle.records.proofs.rules.any_code.Tie as tie
 
 returns : tie.Need-returns
 returns c =
-    let start = c .before .before .before .before .before in
     let end = c .before .before .before .span in
-    let a = start .args in
+    let a = c .before .before .before .before .before .args in
     c .any-copied-code .ensures
     ∙ any-ext (end .result) _ _ (λ k l. ap (λ (x : ℕ). x == a .code) (copied-cell (a .part .now) _ k (c .before .before .cell-bytes .ensures)))
     ∙ ap (λ (n : ℕ). anyBelow n (λ k. cellOf (a .part .now) k == a .code)) (end .ensures)

@@ -21,14 +21,12 @@ loop-holds c = (refl, search needs, rows-begin _ _ _)
 
 returns : tie.Need-returns Inv-loop μ-loop
 returns c =
-    let loop = c .before .before .before .before .before .loop in
-    let lp = loop in
+    let lp = c .before .before .before .before .before .loop in
     sym (lp .inv .2 ∙ row-broken _ _ (lp .i) _ 0 _ _ (omega arith) (sym (c .before .before .before .record-fault .ensures) ∙ ap outcomeOf (c .before .fault .given .1)))
 
 loop-again : tie.Need-loop-again Inv-loop μ-loop
 loop-again c =
-    let loop = c .before .before .before .before .loop in
-    let lp = loop in
+    let lp = c .before .before .before .before .loop in
     (lp .inv .0, search needs, lp .inv .2 ∙ row-kept _ _ (lp .i) _ 0 _ (omega arith) (sym (c .before .before .record-fault .ensures) ∙ ap outcomeOf (c .enum-told .given .1)))
 
 returns-2 : tie.Need-returns-2 Inv-loop μ-loop

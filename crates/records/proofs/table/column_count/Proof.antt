@@ -23,8 +23,7 @@ loop-holds c = (refl, search needs, refl)
 
 loop-again : tie.Need-loop-again Inv-loop μ-loop
 loop-again c =
-    let loop = c .before .before .before .before .loop in
-    let lp = loop in
+    let lp = c .before .before .before .before .loop in
     let same = part-record _ (lp .i) _ (c .before .before .record-at .ensures) (omega arith) in
     (lp .inv .0, search needs, max-more (lp .i) _ (lp .inv .2) (c .before .end-column .ensures ∙ ap (λ (r : List ℕ). startOf r + spanOf r) same) (c .larger .ensures))
 

@@ -11,8 +11,7 @@ use Rattle.removals.proofs.snps.phase_kept.Tie as tie
 
 snp-keep-marks-requires : tie.Need-snp-keep-marks-requires
 snp-keep-marks-requires c κs =
-    let start = c .before .before .before .before .before .before in
-    let p = start .pre in (table-matrix (p .0) (p .1 .0) (p .1 .1 .0), table-gapless (p .0) (p .1 .0) (p .1 .1 .0), p .1 .1 .1 .1 .0)
+    let p = c .before .before .before .before .before .before .pre in (table-matrix (p .0) (p .1 .0) (p .1 .1 .0), table-gapless (p .0) (p .1 .0) (p .1 .1 .0), p .1 .1 .1 .1 .0)
 
 phase-requires : tie.Need-phase-requires
 phase-requires c κs =
@@ -32,8 +31,7 @@ phase-requires c κs =
 returns : tie.Need-returns
 returns c =
     let snp-keep-marks = c .before .before .before .before .before .before .before .snp-keep-marks in
-    let start = c .before .before .before .before .before .before .before .before .before .before .before .before .before .before in
-    let p = start .pre in
+    let p = c .before .before .before .before .before .before .before .before .before .before .before .before .before .before .pre in
     let e = snp-keep-marks .ensures in
     (e .1 ∙ ap zeros (table-marks (p .0) (p .1 .0) (p .1 .1 .0)), table-answer (p .0) (p .1 .0) (p .1 .1 .0) (e .0) (p .1 .1 .1 .0) (c .before .before .phase .ensures))
 

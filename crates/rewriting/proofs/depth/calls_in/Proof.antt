@@ -26,18 +26,16 @@ loop-holds c = (search needs, count-none _)
 
 add-count : tie.Need-add-count Inv-loop μ-loop
 add-count c =
-    let start = c .before .before .before .before .before in
     let l = c .before .before .before .loop in
-    let a = start .args in
+    let a = c .before .before .before .before .before .args in
     let low = count-bound (l .i) (λ (j : ℕ). isCall (getD (a .cells .now) (j * 128 + a .c) 0)) in
     let one = c .one-if .ensures .1 in
     omega arith
 
 loop-again : tie.Need-loop-again Inv-loop μ-loop
 loop-again c =
-    let start = c .before .before .before .before .before in
     let l = c .before .before .before .loop in
-    let a = start .args in
+    let a = c .before .before .before .before .before .args in
     (search needs, ap₂ _+_ (l .inv .1) (c .one-if .ensures .0 ∙ ap bit (c .before .call-at .ensures)) ∙ sym (count-next (l .i) (λ (j : ℕ). isCall (getD (a .cells .now) (j * 128 + a .c) 0))))
 
 returns : tie.Need-returns Inv-loop μ-loop

@@ -24,16 +24,14 @@ loop-holds c = (search needs, none-yet _)
 returns : tie.Need-returns Inv-loop μ-loop
 unfolding firstDeep matrixGrid
 returns c =
-    let start = c .before .before .before .before .before in
     let l = c .before .before .before .loop in
-    let a = start .args in
+    let a = c .before .before .before .before .before .args in
     sym (first-hit (a .n) (λ (k : ℕ). 8 <? depth (matrixGrid (a .m) (a .n) (a .cells .now)) k) (l .c) (c .before .before .loop-test .taken) (l .inv .1) (<?-true 8 _ (subst (λ (x : ℕ). 8 < x) (c .before .calls-in .ensures (a .n)) (c .if1 .taken))))
 
 loop-again : tie.Need-loop-again Inv-loop μ-loop
 loop-again c =
-    let start = c .before .before .before .before .before in
     let l = c .before .before .before .loop in
-    let a = start .args in
+    let a = c .before .before .before .before .before .args in
     (search needs, none-more (l .c) (λ (k : ℕ). 8 <? depth (matrixGrid (a .m) (a .n) (a .cells .now)) k) (l .inv .1) (<?-false 8 _ (subst (λ (x : ℕ). x ≤ 8) (c .before .calls-in .ensures (a .n)) (c .if1 .left))))
 
 returns-2 : tie.Need-returns-2 Inv-loop μ-loop

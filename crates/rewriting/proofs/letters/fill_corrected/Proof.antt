@@ -20,8 +20,7 @@ loop-holds c =
 
 corrected-at-requires : tie.Need-corrected-at-requires Inv-loop μ-loop
 corrected-at-requires c κs =
-    let start = c .before .before .before .before .before .before .before in
-    let p = start .pre in ((p .0 .0, p .0 .1, c .loop-test .taken), p .1)
+    let p = c .before .before .before .before .before .before .before .pre in ((p .0 .0, p .0 .1, c .loop-test .taken), p .1)
 
 slice-write-corrected : tie.Need-slice-write-corrected Inv-loop μ-loop
 slice-write-corrected c = let e = c .before .before .loop .inv .sized in search needs

@@ -22,10 +22,8 @@ loop-holds c = (search needs, count-none _)
 
 add-count : tie.Need-add-count Inv-loop μ-loop
 add-count c =
-    let loop = c .before .before .before .before .before .loop in
-    let start = c .before .before .before .before .before .before .before .before in
-    let l = loop in
-    let a = start .args in
+    let l = c .before .before .before .before .before .loop in
+    let a = c .before .before .before .before .before .before .before .before .args in
     let low = count-bound (l .i) (sideHas (a .cells .now) (a .sides .now) (a .s) (a .c) (a .letter)) in
     let one = c .one-if .ensures .1 in
     omega arith
@@ -33,16 +31,13 @@ add-count c =
 loop-again : tie.Need-loop-again Inv-loop μ-loop
 unfolding sideHas
 loop-again c =
-    let loop = c .before .before .before .before .before .loop in
-    let start = c .before .before .before .before .before .before .before .before in
-    let l = loop in
-    let a = start .args in
+    let l = c .before .before .before .before .before .loop in
+    let a = c .before .before .before .before .before .before .before .before .args in
     (search needs, ap₂ _+_ (l .inv .1) (c .one-if .ensures .0 ∙ ap bit (c .before .is-letter .ensures)) ∙ sym (count-next (l .i) (sideHas (a .cells .now) (a .sides .now) (a .s) (a .c) (a .letter))))
 
 returns : tie.Need-returns Inv-loop μ-loop
 returns c =
-    let start = c .before .before .before .before in
-    let a = start .args in
+    let a = c .before .before .before .before .args in
     let l = c .before .loop in
     let e : l .i ≡ a .m = omega arith in
     l .inv .1

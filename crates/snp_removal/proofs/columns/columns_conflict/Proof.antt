@@ -34,10 +34,8 @@ loop-again : tie.Need-loop-again Inv-loop μ-loop
 unfolding matrixGrid
 loop-again c =
     let cell = c .before .before .before .before .cell in
-    let loop = c .before .before .before .before .before .before .loop in
-    let start = c .before .before .before .before .before .before .before .before .before in
-    let a = start .args in
-    let l = loop in
+    let a = c .before .before .before .before .before .before .before .before .before .args in
+    let l = c .before .before .before .before .before .before .loop in
     let g = matrixGrid (a .m) 0 (a .cells .now) in
     (search needs, pairs-next g (a .a) (a .c) (l .f) (l .inv .1) (cell .ensures) (c .before .before .before .cell2 .ensures) (c .before .before .with-calls .ensures))
 

@@ -26,8 +26,7 @@ loop-holds c =
 extend-requires : tie.Need-extend-requires Inv-loop μ-loop
 extend-requires c κs =
     let loop = c .before .before .before .before .loop in
-    let start = c .before .before .before .before .before .before .before .before .before in
-    let p = start .pre in
+    let p = c .before .before .before .before .before .before .before .before .before .pre in
     (p .0, p .1, p .2, search needs, record { counts-size = search needs; highs-size = search needs; lows-size = search needs }, loop .inv .4)
 
 loop-again : tie.Need-loop-again Inv-loop μ-loop
@@ -37,9 +36,8 @@ loop-again c =
 
 returns : tie.Need-returns Inv-loop μ-loop
 returns c =
-    let start = c .before .before .before .before .before .before in
     let l = c .before .loop in
-    let a = start .args in
+    let a = c .before .before .before .before .before .before .args in
     subst (λ (k : ℕ). HoldsColumns (matrixGrid (a .m) (a .n) (a .cells .now)) k (at (l .counts) (l .highs) (l .lows))) (le-antisymm (l .inv .0) (c .loop-test .left)) (l .inv .4)
 
 pub suffixes-spec : {M : Type 1} → statement M

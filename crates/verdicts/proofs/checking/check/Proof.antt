@@ -12,8 +12,7 @@ check-sized-requires c κs =
 
 returns : tie.Need-returns
 returns c =
-    let start = c .before .before .before .before .before .before in
-    let a = start .args in
+    let a = c .before .before .before .before .before .before .args in
     let r = check-refuses (a .n) (a .table .now) (a .answer .now) _ _ (check-sizes _ _ _ _ _ (sym (c .before .before .before .size-fault .ensures) ∙ ap outcomeOf (c .before .sizes .given .1))) in
     (r .0, (r .1, check-means _ _ _ (r .0) (r .1)))
 

@@ -8,8 +8,7 @@ use Rattle.writing.proofs.layout.cell_byte.Tie as tie
 
 returns : tie.Need-returns
 returns c =
-    let start = c .before .before .before .before .before in
-    let a = start .args in
+    let a = c .before .before .before .before .before .args in
     cellByte-of (cut (a .start) (a .span) (codesOf (a .row .now))) (a .b) _ _ _ _
     (c .before .before .before .cut-code .ensures .0)
     (c .before .before .cut-code2 .ensures .0)

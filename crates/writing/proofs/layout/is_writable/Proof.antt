@@ -16,14 +16,12 @@ returns c =
 
 returns-2 : tie.Need-returns-2
 returns-2 c =
-    let start = c .before .before .before .before in
-    let row = start .args .row .now in
+    let row = c .before .before .before .before .args .row .now in
     unknown-refused (length row) (codesOf row) (passes (c .before .any-unknown .ensures) (c .if2 .taken))
 
 returns-3 : tie.Need-returns-3
 returns-3 c =
-    let start = c .before .before .before .before .before in
-    let row = start .args .row .now in
+    let row = c .before .before .before .before .before .args .row .now in
     writable-by-span (length row) (codesOf row) _ (omega arith) (fails (c .before .before .any-unknown .ensures) (c .before .if2 .left)) (c .calls-span .ensures)
 
 pub is-writable-spec : {M : Type 1} → statement M

@@ -10,20 +10,17 @@ use Rattle.writing.proofs.layout.record_byte.Tie as tie
 
 returns : tie.Need-returns
 returns c =
-    let start = c .before .before .before in
-    let a = start .args in
+    let a = c .before .before .before .args in
     c .tag-byte .ensures ∙ sym (tag-byte-at (a .tag) (a .start) (a .span) (cut (a .start) (a .span) (codesOf (a .row .now))) (a .k) (omega arith))
 
 returns-2 : tie.Need-returns-2
 returns-2 c =
-    let start = c .before .before .before .before in
-    let a = start .args in
+    let a = c .before .before .before .before .args in
     c .frame-byte .ensures ∙ sym (frame-byte-at (a .tag) (a .start) (a .span) (cut (a .start) (a .span) (codesOf (a .row .now))) (a .k) (omega arith) (omega arith))
 
 returns-3 : tie.Need-returns-3
 returns-3 c =
-    let start = c .before .before .before .before in
-    let a = start .args in
+    let a = c .before .before .before .before .args in
     c .cell-byte .ensures ∙ sym (cell-byte-at (a .tag) (a .start) (a .span) (cut (a .start) (a .span) (codesOf (a .row .now))) (a .k) (omega arith) (omega arith))
 
 pub record-byte-spec : {M : Type 1} → statement M

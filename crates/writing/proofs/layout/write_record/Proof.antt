@@ -13,14 +13,12 @@ use Rattle.writing.proofs.layout.write_record.Tie as tie
 
 returns : tie.Need-returns
 returns c =
-    let start = c .before .before .before in
-    let a = start .args in
+    let a = c .before .before .before .args in
     not-long (a .tag) (a .row .now) (a .«record» .now) (c .if1 .taken)
 
 returns-2 : tie.Need-returns-2
 returns-2 c =
-    let start = c .before .before .before .before .before in
-    let a = start .args in
+    let a = c .before .before .before .before .before .args in
     not-writable (a .tag) (a .row .now) (a .«record» .now) (fails (c .before .is-writable .ensures) (not-true _ (c .if2 .taken)))
 
 fill-record-requires : tie.Need-fill-record-requires

@@ -22,25 +22,17 @@ loop-holds c = (search needs, none-yet (unknown (codesOf (c .before .args .row .
 
 returns : tie.Need-returns Inv-loop μ-loop
 returns c =
-    let start = c .before .before .before .before .before in
-    let row = start .args .row .now in
-    let l = c .before .before .before .loop in
     let e = c .before .byte .ensures in
-    sym (any-hit (length row) (unknown (codesOf row)) (l .c) (omega arith) (<?-true _ _ (omega arith)))
+    sym (any-hit _ _ (c .before .before .before .loop .c) (omega arith) (<?-true _ _ (omega arith)))
 
 loop-again : tie.Need-loop-again Inv-loop μ-loop
 loop-again c =
-    let start = c .before .before .before .before .before in
-    let row = start .args .row .now in
     let l = c .before .before .before .loop in
     let e = c .before .byte .ensures in
-    (search needs, none-more (l .c) (unknown (codesOf row)) (l .inv .1) (<?-false _ _ (omega arith)))
+    (search needs, none-more (l .c) _ (l .inv .1) (<?-false _ _ (omega arith)))
 
 returns-2 : tie.Need-returns-2 Inv-loop μ-loop
-returns-2 c =
-    let start = c .before .before .before in
-    let row = start .args .row .now in
-    sym (any-none (length row) (unknown (codesOf row)) (c .before .loop .c) (omega arith) (c .before .loop .inv .1))
+returns-2 c = sym (any-none _ _ (c .before .loop .c) (omega arith) (c .before .loop .inv .1))
 
 pub any-unknown-spec : {M : Type 1} → statement M
 any-unknown-spec =

@@ -22,22 +22,19 @@ loop-holds c = (search needs, refl)
 
 returns : tie.Need-returns Inv-loop μ-loop
 returns c =
-    let start = c .before .before .before .before .before in
-    let row = start .args .row .now in
+    let row = c .before .before .before .before .before .args .row .now in
     let l = c .before .before .before .loop in
     sym (l .inv .1 ∙ end-hit (codesOf row) (l .end) (omega arith) (passes (c .before .is-call-at .ensures) (c .if1 .taken)))
 
 loop-again : tie.Need-loop-again Inv-loop μ-loop
 loop-again c =
-    let start = c .before .before .before .before .before in
-    let row = start .args .row .now in
+    let row = c .before .before .before .before .before .args .row .now in
     let l = c .before .before .before .loop in
     (search needs, l .inv .1 ∙ end-miss (codesOf row) (l .end) (omega arith) (fails (c .before .is-call-at .ensures) (c .if1 .left)))
 
 returns-2 : tie.Need-returns-2 Inv-loop μ-loop
 returns-2 c =
-    let start = c .before .before .before in
-    let row = start .args .row .now in
+    let row = c .before .before .before .args .row .now in
     let l = c .before .loop in
     let e : l .end ≡ 0 = omega arith in
     sym (l .inv .1 ∙ ap (λ (n : ℕ). callsEnd n (codesOf row)) e ∙ end-none (codesOf row))

@@ -12,8 +12,7 @@ use Rattle.writing.proofs.rows.calls_span.Tie as tie
 
 sub-result : tie.Need-sub-result
 sub-result c =
-    let start = c .before .before .before in
-    let row = start .args .row .now in
+    let row = c .before .before .before .args .row .now in
     let e = c .before .calls-end .ensures in
     let s = c .calls-start .ensures in
     let h = start-le-end (length row) (codesOf row) in

@@ -23,22 +23,19 @@ loop-holds c = (search needs, none-yet (calls (codesOf (c .before .args .row .no
 
 returns : tie.Need-returns Inv-loop μ-loop
 returns c =
-    let start = c .before .before .before .before .before in
-    let row = start .args .row .now in
+    let row = c .before .before .before .before .before .args .row .now in
     let l = c .before .before .before .loop in
     start-hit (length row) (codesOf row) (l .c) (omega arith) (l .inv .1) (sym (c .before .is-call-at .ensures) ∙ c .if1 .taken)
 
 loop-again : tie.Need-loop-again Inv-loop μ-loop
 loop-again c =
-    let start = c .before .before .before .before .before in
-    let row = start .args .row .now in
+    let row = c .before .before .before .before .before .args .row .now in
     let l = c .before .before .before .loop in
     (search needs, none-more (l .c) (calls (codesOf row)) (l .inv .1) (sym (c .before .is-call-at .ensures) ∙ c .if1 .left))
 
 returns-2 : tie.Need-returns-2 Inv-loop μ-loop
 returns-2 c =
-    let start = c .before .before .before in
-    let row = start .args .row .now in
+    let row = c .before .before .before .args .row .now in
     start-miss (length row) (codesOf row) (c .before .loop .c) (omega arith) (c .before .loop .inv .1)
 
 pub calls-start-spec : {M : Type 1} → statement M
