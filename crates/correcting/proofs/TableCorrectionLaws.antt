@@ -32,12 +32,12 @@ use Rattle.conflicts.proofs.DeepLaws.{deep-refused, deep-kept}
 use Rattle.matrix.specs.Algorithm.Cells.{tableCells, MarkedMatrix}
 use Rattle.matrix.proofs.TableLaws.{cells-same, cells-cost, cells-leastCostSides, cells-depth, cells-correctionAnswer}
 use Rattle.matrix.proofs.AlikeLaws.{correctedCell-cells}
-use Rattle.corrections.specs.Algorithm.Columns.{Shallow}
+use Rattle.slots.specs.Algorithm.Columns.{Shallow}
 use Rattle.rewriting.specs.Algorithm.Depth.{firstDeep}
 use Rattle.rewriting.specs.Algorithm.Letters.{OnSides, correctedCells}
 use Rattle.rewriting.proofs.DepthLaws.{first-deep, first-none}
-use Rattle.corrections.proofs.CoverLaws.{not-deep}
-use Rattle.corrections.proofs.GrantLaws.{first-same}
+use Rattle.slots.proofs.CoverLaws.{not-deep}
+use Rattle.slots.proofs.GrantLaws.{first-same}
 use Rattle.rewriting.proofs.LetterLaws.{corrected-cell, corrected-two-bits}
 use Rattle.records.specs.Algorithm.Kept.{SizesKept, RecordsKept}
 use Rattle.correcting.specs.Algorithm.Stages.{CorrectionKept}

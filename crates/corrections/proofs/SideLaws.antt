@@ -11,8 +11,8 @@ use Rattle.ranks.specs.Algorithm.Reading.{code, value}
 use Rattle.events.specs.Algorithm.Events.{leastEventWeight, allFirst, events}
 use Rattle.events.specs.Algorithm.Weights.{sideWeight, columnWeight, costOf}
 use Rattle.events.proofs.LightestLaws.{rank-sides}
-use Rattle.corrections.specs.Algorithm.Columns.{firstColumn, covers}
-use Rattle.corrections.proofs.CoverLaws.{grid-starts, cost-local}
+use Rattle.slots.specs.Algorithm.Columns.{firstColumn, covers}
+use Rattle.slots.proofs.CoverLaws.{grid-starts, cost-local}
 
 pub least-sides : (g : Grid) → g .m ≤ 128 → (r : Rank) → r .high < 2 ^ 64 → r .low < 2 ^ 64
     → value r ≡ leastEventWeight 2 sideWeight (columnWeight (columnCost 2 g)) (events (firstColumn g) (g .m) (g .n)) allFirst

@@ -15,10 +15,11 @@ use Rattle.conflicts.specs.Grid.{Grid}
 use Rattle.conflicts.specs.Corrections.{correctionCost, sidePrice, sideCount, columnCost}
 use Rattle.events.specs.Algorithm.Slots.{digit, sidesAt}
 use Rattle.events.proofs.GatherLaws.{gathered-sum}
-use Rattle.corrections.specs.Algorithm.Columns.{covers}
-use Rattle.corrections.specs.Algorithm.Sweep.{Slotted, Gathered}
+use Rattle.slots.specs.Algorithm.Columns.{covers}
+use Rattle.slots.specs.Algorithm.Spans.{Slotted}
+use Rattle.corrections.specs.Algorithm.Sweep.{Gathered}
 use Rattle.patterns.specs.Algorithm.Patterns.{slotHas, slotCost}
-use Rattle.corrections.proofs.CoverLaws.{called-covers}
+use Rattle.slots.proofs.CoverLaws.{called-covers}
 
 bit-false : (b : Bool) → (T b → ⊥) → bit b ≡ 0
 bit-false true f = absurd (f tt)

@@ -18,11 +18,12 @@ use Rattle.events.proofs.EventLaws.{Absent, Ordered}
 use Rattle.events.proofs.ColumnLaws.{ordered-from, ordered-column}
 use Rattle.events.proofs.SlotLaws.{holds-none, holds-charge, holds-enter, holds-end, enter-apart}
 use Rattle.events.proofs.ShapeLaws.{shaped, few-from, few-part, charges-from, charges-part, places-fit}
-use Rattle.corrections.specs.Algorithm.Columns.{firstColumn, covers, Shallow}
+use Rattle.slots.specs.Algorithm.Columns.{firstColumn, covers, Shallow}
 use Rattle.conflicts.specs.Corrections.{columnCost}
-use Rattle.corrections.specs.Algorithm.Sweep.{Slotted, Gathered, HoldsAll}
+use Rattle.slots.specs.Algorithm.Spans.{Slotted}
+use Rattle.corrections.specs.Algorithm.Sweep.{Gathered, HoldsAll}
 use Rattle.patterns.specs.Algorithm.Patterns.{slotCost, PatternsRoom}
-use Rattle.corrections.proofs.CoverLaws.{grid-starts, weight-local, cost-bound}
+use Rattle.slots.proofs.CoverLaws.{grid-starts, weight-local, cost-bound}
 use Rattle.corrections.proofs.SlotCostLaws.{slot-cost-is}
 
 module _ (g : Grid) where

@@ -1,13 +1,13 @@
 // The least corrections of a table of which at most 8 fragments cover a column, over its cell matrix.
 use ranks::table;
+use slots::fill_slots;
+use slots::fill_spans;
 ghost use mathlib.Core.Path.{_≡_};
 ghost use lib.ListN.{length};
 ghost use Rattle.matrix.specs.Algorithm.Matrix.{matrixGrid, Matrix};
 ghost use Rattle.conflicts.specs.Corrections.{cost, leastCostSides};
-ghost use Rattle.corrections.specs.Algorithm.Columns.{Shallow};
+ghost use Rattle.slots.specs.Algorithm.Columns.{Shallow};
 
-mod slots;
-mod spans;
 mod sweep;
 
 // Writes the first side list of least cost, and returns that cost.
@@ -19,8 +19,8 @@ pub fn least_cost_sides(m: usize, n: usize, cells: &[u8], sides: &mut [u8]) -> u
     let mut starts = [0usize; 128];
     let mut ends = [0usize; 128];
     let mut slots = [0usize; 128];
-    spans::fill_spans(m, n, cells, &mut starts, &mut ends);
-    slots::fill_slots(m, n, cells, &starts, &ends, &mut slots);
+    fill_spans(m, n, cells, &mut starts, &mut ends);
+    fill_slots(m, n, cells, &starts, &ends, &mut slots);
     let mut counts = [0u16; 256];
     let mut highs = [0u64; 256];
     let mut lows = [0u64; 256];

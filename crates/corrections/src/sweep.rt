@@ -13,7 +13,7 @@ ghost use Rattle.ranks.specs.Algorithm.Tables.{at, Sweep};
 ghost use Rattle.events.specs.Algorithm.Events.{eventsFrom, events, partOf};
 ghost use Rattle.events.specs.Algorithm.Weights.{sideWeight};
 ghost use Rattle.events.specs.Algorithm.Slots.{entered};
-ghost use Rattle.corrections.specs.Algorithm.Columns.{firstColumn};
+ghost use Rattle.slots.specs.Algorithm.Columns.{firstColumn};
 ghost use Rattle.corrections.specs.Algorithm.Sweep.{Gathering, withLetter, GathersAll, Ready, HoldsAll};
 ghost use Rattle.patterns.specs.Algorithm.Patterns.{Patterns, Alone, PatternRoom, PatternsRoom, enteredAt, slotCost};
 

@@ -4,7 +4,7 @@ use Rattle.ranks.proofs.TableLaws.{zeros-at as weights-none}
 use mathlib.Core.Path.{refl, _∙_}
 use borrow.Author.Needs.{needs}
 use Rattle.matrix.specs.Algorithm.Matrix.{matrixGrid}
-use Rattle.corrections.proofs.GrantLaws.{zeros-at, none-granted}
+use Rattle.slots.proofs.GrantLaws.{zeros-at, none-granted}
 use Rattle.corrections.proofs.StepLaws.{holds-start, holds-least}
 use Rattle.corrections.proofs.SideLaws.{least-sides}
 use Rattle.corrections.proofs.least_cost_sides.Statement.{statement}

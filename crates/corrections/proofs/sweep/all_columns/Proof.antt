@@ -8,7 +8,7 @@ use borrow.Author.Needs.{needs}
 use Rattle.matrix.specs.Algorithm.Matrix.{matrixGrid}
 use Rattle.ranks.specs.Algorithm.Tables.{at}
 use Rattle.events.specs.Algorithm.Events.{eventsFrom}
-use Rattle.corrections.specs.Algorithm.Columns.{firstColumn}
+use Rattle.slots.specs.Algorithm.Columns.{firstColumn}
 use Rattle.patterns.specs.Algorithm.Patterns.{Patterns}
 use Rattle.corrections.specs.Algorithm.Sweep.{HoldsAll}
 use Rattle.corrections.proofs.StepLaws.{holds-all}

@@ -10,10 +10,12 @@ use borrow.Author.Needs.{needs}
 use Rattle.matrix.specs.Algorithm.Matrix.{matrixGrid}
 use Rattle.ranks.specs.Algorithm.Tables.{at}
 use Rattle.events.specs.Algorithm.Events.{partOf}
-use Rattle.corrections.specs.Algorithm.Columns.{firstColumn}
+use Rattle.slots.specs.Algorithm.Columns.{firstColumn}
 use Rattle.patterns.specs.Algorithm.Patterns.{Patterns}
-use Rattle.corrections.specs.Algorithm.Sweep.{Spanned, Gathered, GathersAll, HoldsAll}
-use Rattle.corrections.proofs.GrantLaws.{zeros-at, gathered-none}
+use Rattle.slots.specs.Algorithm.Spans.{Spanned}
+use Rattle.corrections.specs.Algorithm.Sweep.{Gathered, GathersAll, HoldsAll}
+use Rattle.slots.proofs.GrantLaws.{zeros-at}
+use Rattle.corrections.proofs.LetterLaws.{gathered-none}
 use Rattle.corrections.proofs.StepLaws.{column-room, step-charge, step-column}
 use Rattle.corrections.proofs.sweep.column.Statement.{statement}
 use Rattle.corrections.proofs.sweep.column.Tie as tie

@@ -7,8 +7,9 @@ use native.Mathlib.Omega.{arith}
 use lib.ListN.{length}
 use borrow.Author.Needs.{needs}
 use Rattle.matrix.specs.Algorithm.Matrix.{matrixGrid}
-use Rattle.corrections.specs.Algorithm.Sweep.{Spanned, Gathered}
-use Rattle.corrections.proofs.GrantLaws.{gathered-more, letters-long}
+use Rattle.slots.specs.Algorithm.Spans.{Spanned}
+use Rattle.corrections.specs.Algorithm.Sweep.{Gathered}
+use Rattle.corrections.proofs.LetterLaws.{gathered-more, letters-long}
 use Rattle.corrections.proofs.sweep.gather.Statement.{statement}
 use Rattle.corrections.proofs.sweep.gather.Tie as tie
 

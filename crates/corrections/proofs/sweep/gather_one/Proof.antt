@@ -2,7 +2,7 @@
 -- Assumes nothing.
 use native.Mathlib.Omega.{arith}
 use borrow.Author.Needs.{needs}
-use Rattle.corrections.proofs.GrantLaws.{letter-put, letter-ended, letter-not-begun}
+use Rattle.corrections.proofs.LetterLaws.{letter-put, letter-ended, letter-not-begun}
 use Rattle.corrections.proofs.sweep.gather_one.Statement.{statement}
 use Rattle.corrections.proofs.sweep.gather_one.Tie as tie
 

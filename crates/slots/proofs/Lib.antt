@@ -1,0 +1,2 @@
+pub mod CoverLaws
+pub mod GrantLaws
