@@ -4,9 +4,10 @@ use mathlib.Core.Path.{_≡_, refl, sym}
 use mathlib.Core.Bool.{Bool, true, false}
 use Prim.Native.Nat.{ℕ, _+_, _≤_, _<_}
 use native.Mathlib.Decide.{decLe}
+use native.Mathlib.Numerals.{add-one}
 use native.Mathlib.Omega.{arith}
 use lib.Dec.{T}
-use Rattle.below.specs.Below.{anyBelow, firstBelow, _==_, _<?_, _≤?_, _and_}
+use Rattle.below.specs.Below.{anyBelow, firstBelow, _==_, _<?_, _≤?_, _and_, _or_}
 use Rattle.below.proofs.BelowLaws.{passes, fails, is-true, is-false, isnt-T, T-isnt, anyBelow-of, anyBelow-at, firstBelow-le, firstBelow-at, firstBelow-least, ==-eq, ==-refl, <?-lt, lt-<?, ≤?-le, le-≤?}
 
 -- ---- a test as an equation
@@ -60,6 +61,11 @@ none-more i p none e =
     record {
       none-passes = λ k h. elim (decLe (k + 1) i) [ yes l ↦ none .none-passes k (omega arith) | no l ↦ let s : k ≡ i = omega arith in rw s e ];
     }
+
+-- one number more
+pub any-more : (p : ℕ → Bool) (i : ℕ) → anyBelow (i + 1) p ≡ (anyBelow i p or p i)
+unfolding anyBelow
+any-more p i = rw add-one refl
 
 module _ (n : ℕ) (p : ℕ → Bool) where
   pub any-hit : (i : ℕ) → i < n → p i ≡ true → anyBelow n p ≡ true

@@ -1,19 +1,30 @@
--- A record's rules: what 6 and 7 leave of 8.
+-- A record's rules: what 4 says of the span, and what 6 and 7 leave of 8.
 -- Assumes nothing.
-use mathlib.Core.Path.{_≡_}
-use mathlib.Core.Bool.{false}
+use mathlib.Core.Path.{_≡_, refl, _∙_}
+use mathlib.Core.Bool.{Bool, true, false}
 use mathlib.Core.List.{List}
-use Prim.Native.Nat.{ℕ, _-_, _<_}
+use Prim.Native.Nat.{ℕ, _-_, _≤_, _<_, min}
 use native.Mathlib.Nat.{zero-add}
 use native.Mathlib.Omega.{arith}
 use lib.Dec.{T}
-use Rattle.below.specs.Below.{anyBelow, _==_, _<?_}
+use Rattle.below.specs.Below.{if_then_else_, anyBelow, _==_, _<?_, _or_}
 use Rattle.records.specs.Record.{spanOf, isCall, cellOf}
-use Rattle.records.specs.Rules.{unknownCall, openEnd, gapped}
-use Rattle.below.proofs.BelowLaws.{eq-==, both, or-left, or-right, anyBelow-of, lt-<?}
+use Rattle.records.specs.Rules.{outOfFrame, unknownCall, openEnd, gapped}
+use Rattle.below.proofs.BelowLaws.{if-ind, T-isnt, ==-eq, fails, isnt-<?, neither, eq-==, both, or-left, or-right, anyBelow-of, lt-<?}
 use Rattle.records.proofs.ByteLaws.{cell-small}
 use Rattle.below.proofs.SearchLaws.{false-T}
 use Rattle.records.proofs.ExtentLaws.{Extent, call-of, gap-within}
+
+-- a record that keeps 4 has no more than its 96 cells
+pub frame-narrow : (n : ℕ) (r : List ℕ) → outOfFrame n r ≡ false → spanOf r ≤ 96
+unfolding outOfFrame
+frame-narrow n r e = isnt-<? _ _ (neither _ _ (neither _ _ (fails refl e) .0) .0)
+
+-- the least of what the cells before left and a code
+pub least-more : (b : Bool) (x : ℕ) → min (if b then 0 else 1) x ≡ (if b or x == 0 then 0 else 1)
+unfolding _or_
+least-more true x = omega arith
+least-more false x = if-ind (λ (y : ℕ). min 1 x ≡ y) (x == 0) (λ t. let e = ==-eq x 0 t in omega arith) (λ t. let f : x ≡ 0 → ⊥ = λ e. T-isnt (x == 0) t (eq-== x 0 e) in omega arith)
 
 module _ (r : List ℕ) (known : unknownCall r ≡ false) (shut : openEnd r ≡ false) where
   -- a cell of the span that is not a hole is a call
@@ -40,6 +51,25 @@ module _ (r : List ℕ) (known : unknownCall r ≡ false) (shut : openEnd r ≡ 
   }
 
   -- a hole of the span lies between two calls
-  pub gapped-holes : gapped r ≡ anyBelow (spanOf r) (λ k. cellOf r k == 0)
+  gapped-holes : gapped r ≡ anyBelow (spanOf r) (λ k. cellOf r k == 0)
   unfolding gapped
   gapped-holes = simp zero-add at (gap-within (spanOf r) (cellOf r) 0 (spanOf r) span-extent)
+
+worst-test : (a b : Bool) → (a ≡ ((if a then 3 else if b then 0 else 1) == 3)) × (b ≡ ((if b then 0 else 1) == 0))
+unfolding _==_
+worst-test true true = (refl, refl)
+worst-test true false = (refl, refl)
+worst-test false true = (refl, refl)
+worst-test false false = (refl, refl)
+
+-- what the worst code of the span tells of 6 and, where 6 and 7 are kept, of 8
+module _ (r : List ℕ) (end x : ℕ) (ends : end ≡ spanOf r) (is : x ≡ (if anyBelow end (λ k. cellOf r k == 3) then 3 else if anyBelow end (λ k. cellOf r k == 0) then 0 else 1)) where
+  worst : x ≡ (if unknownCall r then 3 else if anyBelow (spanOf r) (λ k. cellOf r k == 0) then 0 else 1)
+  unfolding unknownCall
+  worst = rw (← ends) is
+
+  pub worst-unknown : unknownCall r ≡ (x == 3)
+  worst-unknown = rw worst (worst-test (unknownCall r) (anyBelow (spanOf r) (λ k. cellOf r k == 0)) .0)
+
+  pub worst-gapped : unknownCall r ≡ false → openEnd r ≡ false → gapped r ≡ (x == 0)
+  worst-gapped known shut = gapped-holes r known shut ∙ rw (rw known at worst) (worst-test true (anyBelow (spanOf r) (λ k. cellOf r k == 0)) .1)

@@ -1,19 +1,21 @@
 -- A record's fields by its bytes, and its cells by their bits.
 -- Assumes nothing.
 use mathlib.Core.Path.{_≡_, refl, _∙_, ap₂, sym, ap}
+use mathlib.Core.Bool.{Bool, true}
 use mathlib.Core.List.{List, [], _∷_}
-use Prim.Native.Nat.{ℕ, zero, suc, _+_, _*_, _-_, _/_, _%_, _^_, _≤_, _<_, min}
-use native.Mathlib.Nat.{min-le-left, min-le-right, le-min}
+use Prim.Native.Nat.{ℕ, _+_, _*_, _-_, _/_, _%_, _^_, _≤_, _<_, min}
+use native.Mathlib.Nat.{one-le-pow, pow-le-pow-right, div-lt-iff-lt-mul, div-eq-of-lt}
 use native.Mathlib.Omega.{arith}
 use native.Mathlib.Decide.{decLe}
-use lib.ListN.{length, getD, take, drop}
-use lib.Seq.{getD-drop}
-use Rattle.below.specs.Below.{if_then_else_, tab, _<?_, _≤?_, _and_}
+use lib.ListN.{length, getD, take, drop, replicate, length-replicate, getD-replicate}
+use lib.Seq.{getD-drop, ext-getD}
+use Rattle.below.specs.Below.{if_then_else_, tab, anyBelow, _==_, _<?_, _≤?_, _and_, isnt}
 use Rattle.records.specs.Record.{littleEndian, tagOf, startOf, spanOf, cellOf, codeAt}
-use Rattle.records.specs.Algorithm.Copies.{cellBytesOf, copiedCell}
-use Rattle.below.proofs.RowLaws.{tab-ext}
-use Rattle.records.proofs.ByteLaws.{cell-in, cell-past}
-use Rattle.below.proofs.BelowLaws.{length-tab, getD-tab, if-ind, if-true, if-false, le-isnt, both, left-of, right-of, isnt-T, T-isnt, lt-<?, <?-lt, le-≤?, ≤?-le}
+use borrow.Rule.Slice.PartMut.{midOf, putMid, same-len-mid, mid-len}
+use Rattle.below.proofs.FillLaws.{put-before, put-within, put-after}
+use Rattle.below.proofs.SearchLaws.{NoneBelow, T-true, T-false}
+use Rattle.records.proofs.ByteLaws.{cell-in, cell-past, four}
+use Rattle.below.proofs.BelowLaws.{length-tab, getD-tab, if-ind, if-true, if-false, both, not-both, left-of, right-of, isnt-T, T-isnt, isnt-isnt, none-at, eq-==, ==-eq, lt-<?, <?-lt, le-≤?, ≤?-le}
 
 two-bytes : (l : List ℕ) → littleEndian (take 2 l) ≡ getD l 0 0 + 256 * getD l 1 0
 unfolding littleEndian
@@ -33,40 +35,64 @@ pub start-bytes : (r : List ℕ) → startOf r ≡ getD r 4 0 + 256 * getD r 5 0
 unfolding startOf
 start-bytes r = two-bytes (drop 4 r) ∙ ap₂ (λ (x y : ℕ). x + 256 * y) (getD-drop 4 r 0 0) (getD-drop 4 r 1 0)
 
+-- ---- cells by their bytes
+
 -- two bits for each cell
 four-pow : (q : ℕ) → q < 4 → 2 ^ (2 * q) ≡ 4 ^ q
-four-pow zero h = refl
-four-pow (suc zero) h = refl
-four-pow (suc (suc zero)) h = refl
-four-pow (suc (suc (suc zero))) h = refl
-four-pow (suc (suc (suc (suc q)))) h = absurd (omega arith)
+four-pow = four (λ q. 2 ^ (2 * q) ≡ 4 ^ q) refl refl refl refl
 
--- cell i of a copy of bytes 8 to 31
-pub copied-in : (copy : List ℕ) (i : ℕ) → i < 96 → getD copy (i / 4) 0 / 4 ^ (i % 4) % 4 ≡ copiedCell copy i
-unfolding copiedCell
-copied-in copy i h = sym (if-true (i <? 96) _ _ (lt-<? i 96 h))
+-- cell i by a shift
+pub cell-shifted : (r : List ℕ) (i x : ℕ) → i < 96 → x ≡ getD r (8 + i / 4) 0 → x / 2 ^ (2 * (i % 4)) % 4 ≡ cellOf r i
+cell-shifted r i x h e = ap₂ (λ (x k : ℕ). x / k % 4) e (four-pow (i % 4) (omega arith)) ∙ sym (cell-in r i h)
 
--- … by a shift
-pub copied-shifted : (copy : List ℕ) (i : ℕ) → i < 96 → getD copy (i / 4) 0 / 2 ^ (2 * (i % 4)) % 4 ≡ copiedCell copy i
-copied-shifted copy i h = ap (λ (k : ℕ). getD copy (i / 4) 0 / k % 4) (four-pow (i % 4) (omega arith)) ∙ copied-in copy i h
+-- the four cells of a byte
+pub cell-of-byte : (r : List ℕ) (b q x : ℕ) → b < 24 → q < 4 → x ≡ getD r (8 + b) 0 → x / 4 ^ q % 4 ≡ cellOf r (4 * b + q)
+cell-of-byte r b q x h l e =
+    ap₂ (λ (x k : ℕ). x / 4 ^ k % 4) (e ∙ ap (λ (b : ℕ). getD r (8 + b) 0) (omega arith)) (omega arith) ∙ sym (cell-in r (4 * b + q) (omega arith))
 
-pub copied-past : (copy : List ℕ) (i : ℕ) → 96 ≤ i → copiedCell copy i ≡ 0
-unfolding copiedCell
-copied-past copy i h = if-false (i <? 96) _ _ (le-isnt i 96 h)
+-- the cells of a byte from its cell q on are holes
+abbrev HolesFrom : ℕ → ℕ → Type 0
+HolesFrom x q = (k : ℕ) → k < 4 → q ≤ k → x / 4 ^ k % 4 ≡ 0
 
--- it is the record's cell
-pub copied-cell : (r copy : List ℕ) (i : ℕ) → copy ≡ cellBytesOf r → copiedCell copy i ≡ cellOf r i
-unfolding copiedCell cellBytesOf
-copied-cell r copy i e =
-    elim (decLe 96 i) [
-      | yes past ↦ copied-past copy i past ∙ sym (cell-past r i past)
-      | no before ↦
-          let h : i < 96 = omega arith in
-          sym (copied-in copy i h)
-          ∙ ap (λ (l : List ℕ). getD l (i / 4) 0 / 4 ^ (i % 4) % 4) e
-          ∙ ap (λ (b : ℕ). b / 4 ^ (i % 4) % 4) (getD-tab 24 (λ k. getD r (8 + k) 0) (i / 4) 0 (omega arith))
-          ∙ sym (cell-in r i h)
-    ]
+-- … exactly if what is left of the byte is 0
+left-zero : (x q : ℕ) → x / 4 ^ q ≡ 0 → HolesFrom x q
+left-zero x q e k l h =
+    let small : x < 1 * 4 ^ q = div-lt-iff-lt-mul (one-le-pow q 4 (omega arith)) .0 (omega arith) in
+    let wide = pow-le-pow-right {n = 4} (omega arith) h in
+    ap (λ (y : ℕ). y % 4) (div-eq-of-lt (omega arith))
+
+zero-left : (x : ℕ) → x < 256 → (q : ℕ) → q < 4 → HolesFrom x q → x / 4 ^ q ≡ 0
+zero-left x small =
+    let from3 : HolesFrom x 3 → x / 64 ≡ 0 = λ f. let e : x / 64 % 4 ≡ 0 = f 3 (omega arith) (omega arith) in omega arith in
+    let from2 : HolesFrom x 2 → x / 16 ≡ 0 = λ f. let e : x / 16 % 4 ≡ 0 = f 2 (omega arith) (omega arith) in let h = from3 (λ k l h. f k l (omega arith)) in omega arith in
+    let from1 : HolesFrom x 1 → x / 4 ≡ 0 = λ f. let e : x / 4 % 4 ≡ 0 = f 1 (omega arith) (omega arith) in let h = from2 (λ k l h. f k l (omega arith)) in omega arith in
+    let from0 : HolesFrom x 0 → x / 1 ≡ 0 = λ f. let e : x / 1 % 4 ≡ 0 = f 0 (omega arith) (omega arith) in let h = from1 (λ k l h. f k l (omega arith)) in omega arith in
+    four (λ q. HolesFrom x q → x / 4 ^ q ≡ 0) from0 from1 from2 from3
+
+-- cell i lies after a span that ends at e, and is not 0
+abbrev pub stray : List ℕ → ℕ → ℕ → Bool
+stray r e i = e ≤? i and isnt (cellOf r i == 0)
+
+module _ (r : List ℕ) (e i x : ℕ) (after : e ≤ i) (inside : i < 96) (is : x ≡ getD r (8 + i / 4) 0) where
+  -- where what is left of the byte is 0, none of its cells is stray
+  pub stray-none : x / 2 ^ (2 * (i % 4)) ≡ 0 → NoneBelow i (stray r e) → NoneBelow (4 * (i / 4) + 4) (stray r e)
+  stray-none zero none = record {
+    none-passes = λ j h. elim (decLe i j) [
+      | no l ↦ none .none-passes j (omega arith)
+      | yes l ↦
+          let k = j - 4 * (i / 4) in
+          let same : 4 * (i / 4) + k ≡ j = omega arith in
+          let e : cellOf r j ≡ 0 = ap (cellOf r) (sym same) ∙ sym (cell-of-byte r (i / 4) k x (omega arith) (omega arith) is) ∙ left-zero x (i % 4) (ap (λ (d : ℕ). x / d) (sym (four-pow (i % 4) (omega arith))) ∙ zero) k (omega arith) (omega arith) in
+          T-false _ (λ t. T-isnt (cellOf r j == 0) (right-of _ _ t) (eq-== _ _ e))
+    ];
+  }
+
+  -- where it is not, one of them is
+  pub stray-some : x < 256 → (x / 2 ^ (2 * (i % 4)) ≡ 0 → ⊥) → anyBelow 96 (stray r e) ≡ true
+  stray-some small some =
+      T-true _ (isnt-isnt _ (isnt-T _ (λ t.
+      some (ap (λ (d : ℕ). x / d) (four-pow (i % 4) (omega arith)) ∙ zero-left x small (i % 4) (omega arith) (λ k l h.
+      cell-of-byte r (i / 4) k x (omega arith) l is ∙ ==-eq _ _ (isnt-isnt _ (not-both _ _ (none-at 96 (stray r e) t (4 * (i / 4) + k) (omega arith)) (le-≤? e _ (omega arith)))))))))
 
 -- ---- the code at a column
 
@@ -85,45 +111,53 @@ pub codeAt-nil : (c : ℕ) → codeAt [] c ≡ 0
 unfolding startOf spanOf littleEndian
 codeAt-nil c = codeAt-out [] c (λ h. h)
 
--- a cleared row of w columns, with the cells written from the start to the least of the span's end, n and w
-row-code : (r : List ℕ) (n w : ℕ) {s k end : ℕ} {copy row : List ℕ}
-    → s ≡ startOf r → k ≡ spanOf r → copy ≡ cellBytesOf r → row ≡ tab w (λ c. 0) → end ≡ min (s + k) (min n w)
-    → (c : ℕ) → c < w → (if s ≤? c and c <? end then copiedCell copy (c - s) else getD row c 0) ≡ (if c <? n then codeAt r c else 0)
-row-code r n w {s} {k} {end} {copy} {row} es ek e cleared ends c inside =
-    let zero-there : getD row c 0 ≡ 0 = ap (λ (l : List ℕ). getD l c 0) cleared ∙ getD-tab w (λ c. 0) c 0 inside in
-    let far = min-le-left (s + k) (min n w) in
-    let near = min-le-right (s + k) (min n w) in
-    let seen = min-le-left n w in
-    elim (decLe n c) [
-      | yes past ↦
-          if-false (s ≤? c and c <? end) _ _ (isnt-T _ (λ t. let b = <?-lt _ _ (right-of _ _ t) in absurd (omega arith)))
-          ∙ zero-there
-          ∙ sym (if-false (c <? n) _ _ (le-isnt c n past))
-      | no before ↦
-          let shown : c < n = omega arith in
-          if-ind (λ (x : ℕ). x ≡ codeAt r c) (s ≤? c and c <? end)
-          (λ t.
-          let a = ≤?-le _ _ (left-of _ _ t) in
-          let b = <?-lt _ _ (right-of _ _ t) in
-          copied-cell r copy (c - s) e ∙ ap (λ (x : ℕ). cellOf r (c - x)) es ∙ sym (codeAt-in r c (omega arith) (omega arith)))
-          (λ t.
-          zero-there ∙ sym (codeAt-out r c (λ a. elim (decLe (startOf r + spanOf r) c) [
-            | yes out ↦ out
-            | no within ↦
-                let reach : c + 1 ≤ min (s + k) (min n w) = le-min (omega arith) (le-min (omega arith) (omega arith)) in
-                absurd (T-isnt _ t (both _ _ (le-≤? s c (omega arith)) (lt-<? c end (omega arith))))
-          ])))
-          ∙ sym (if-true (c <? n) _ _ (lt-<? c n shown))
-    ]
+-- a cleared row of w columns, with the cells written from the start to the least of the span's end, the 96 cells, n and w
+module _ (r : List ℕ) (n w : ℕ) {s k shown end first : ℕ} {cleared : List ℕ} (clear : cleared ≡ replicate w 0)
+    (es : s ≡ startOf r) (ek : k ≡ min (spanOf r) 96) (shows : shown ≡ min n (length cleared)) (ends : end ≡ min (s + k) shown) (firsts : first ≡ min s end) where
+  as-wide : length cleared ≡ w
+  as-wide = ap length clear ∙ length-replicate w 0
 
--- … column by column: the row's codes
-pub row-filled : (r : List ℕ) (n : ℕ) (row : List ℕ) {s k shown end : ℕ} {copy cleared filled : List ℕ}
-    → s ≡ startOf r → k ≡ spanOf r → copy ≡ cellBytesOf r → cleared ≡ tab (length row) (λ c. 0) → shown ≡ min n (length cleared) → end ≡ min (s + k) shown
-    → filled ≡ tab (length cleared) (λ c. if s ≤? c and c <? end then copiedCell copy (c - s) else getD cleared c 0)
-    → filled ≡ tab (length row) (λ c. if c <? n then codeAt r c else 0)
-row-filled r n row {s} {k} {shown} {end} {copy} {cleared} es ek e clear shows ends written =
-    let same : length cleared ≡ length row = ap length clear ∙ length-tab (length row) _ in
-    let bound : end ≡ min (s + k) (min n (length row)) = ends ∙ ap (λ (x : ℕ). min (s + k) x) (shows ∙ ap (λ (x : ℕ). min n x) same) in
-    written
-    ∙ ap (λ (w : ℕ). tab w (λ c. if s ≤? c and c <? end then copiedCell copy (c - s) else getD cleared c 0)) same
-    ∙ tab-ext (length row) _ _ (row-code r n (length row) es ek e clear bound)
+  -- a column that was written belongs to cell c - start
+  written-code : (c : ℕ) → first ≤ c → c < end → cellOf r (c - first) ≡ codeAt r c
+  written-code c a b =
+      let same : first ≡ s = omega arith in
+      ap (λ (x : ℕ). cellOf r (c - x)) (same ∙ es) ∙ sym (codeAt-in r c (omega arith) (omega arith))
+
+  -- one that was not has no code
+  unwritten-code : (c : ℕ) → c < n → c < w → (first ≤ c → end ≤ c) → codeAt r c ≡ 0
+  unfolding codeAt
+  unwritten-code c a b f =
+      let wide = as-wide in
+      elim (decLe (startOf r + 96) c) [
+        | yes past ↦ if-ind (λ (x : ℕ). x ≡ 0) (startOf r ≤? c and c <? startOf r + spanOf r) (λ t. cell-past r (c - startOf r) (omega arith)) (λ t. refl)
+        | no before ↦ codeAt-out r c (λ started. elim (decLe (startOf r + spanOf r) c) [
+          | yes out ↦ out
+          | no within ↦ let g = f (omega arith) in absurd (omega arith)
+        ])
+      ]
+
+  -- a column outside the part
+  hole : (c : ℕ) → c < w → (first ≤ c → end ≤ c) → getD cleared c 0 ≡ (if c <? n then codeAt r c else 0)
+  hole c b f =
+      ap (λ (l : List ℕ). getD l c 0) clear ∙ getD-replicate w c 0 0 b
+      ∙ if-ind (λ (x : ℕ). 0 ≡ x) (c <? n) (λ u. sym (unwritten-code c (<?-lt _ _ u) b f)) (λ u. refl)
+
+  -- column by column: the row's codes
+  pub row-filled : {cells : List ℕ} → cells ≡ tab (length (midOf first (end - first) cleared)) (cellOf r) → putMid first (end - first) cleared cells ≡ tab w (λ c. if c <? n then codeAt r c else 0)
+  row-filled {cells} e =
+      let wide = as-wide in
+      let is : cells ≡ tab (end - first) (cellOf r) = e ∙ ap (λ (k : ℕ). tab k (cellOf r)) (mid-len first end cleared (omega arith)) in
+      let long : length cells ≡ end - first = ap length is ∙ length-tab (end - first) _ in
+      let same = same-len-mid first (end - first) cleared cells (ap length e ∙ length-tab _ _) in
+      ext-getD 0 _ _ (same ∙ as-wide ∙ sym (length-tab w _)) (λ c h. elim (decLe first c) [
+        | no a ↦ put-before first end cleared cells (omega arith) (omega arith) long c (omega arith) ∙ hole c (omega arith) (λ g. absurd (a g))
+        | yes a ↦ elim (decLe (c + 1) end) [
+          | no b ↦ put-after first end cleared cells (omega arith) (omega arith) long c (omega arith) ∙ hole c (omega arith) (λ g. omega arith)
+          | yes b ↦
+              put-within first end cleared cells (omega arith) (omega arith) long c a (omega arith)
+              ∙ ap (λ (l : List ℕ). getD l (c - first) 0) is
+              ∙ getD-tab (end - first) (cellOf r) (c - first) 0 (omega arith)
+              ∙ written-code c a (omega arith)
+              ∙ sym (if-true (c <? n) _ _ (lt-<? c n (omega arith)))
+        ]
+      ] ∙ sym (getD-tab w (λ c. if c <? n then codeAt r c else 0) c 0 (omega arith)))

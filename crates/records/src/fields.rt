@@ -1,8 +1,8 @@
 // A record's fields and cells. Each reader takes any bytes: one past the end counts as 0.
 ghost use mathlib.Core.Path.{_≡_};
+ghost use Prim.Native.Nat.{_*_, _/_, _%_, _^_};
 ghost use lib.ListN.{getD};
 ghost use Rattle.records.specs.Record.{isCall, tagOf, startOf, spanOf, byte7Of, cellOf};
-ghost use Rattle.records.specs.Algorithm.Copies.{cellBytesOf, copiedCell};
 
 // Byte i, or 0 past the end.
 pub fn byte(part: &[u8], i: usize) -> u8
@@ -55,34 +55,20 @@ pub fn is_call(code: u8) -> bool
     code == 2
 }
 
-// A copy of bytes 8 to 31.
-pub(crate) fn cell_bytes(part: &[u8]) -> [u8; 24]
-    ensures { λ r. ⌜ r ≡ cellBytesOf (now (part .entry)) ⌝ }
+// The code of cell i in the byte that holds it.
+pub(crate) fn code_in(codes: u8, i: usize) -> u8
+    ensures { λ r. ⌜ r ≡ codes / 2 ^ (2 * (i % 4)) % 4 ⌝ }
 {
-    let mut copy = [0u8; 24];
-    let mut k = 0;
-    while k < 24 {
-        copy[k] = byte(part, 8 + k);
-        k += 1;
-    }
-    copy
+    let low = 2 * (i % 4);
+    (codes >> low) % 4
 }
 
-// The code of cell i in a copy of bytes 8 to 31; 0 from cell 96 on.
-pub(crate) fn copied_cell(copy: &[u8; 24], i: usize) -> u8
-    ensures { λ r. ⌜ r ≡ copiedCell (now (copy .entry)) i ⌝ }
+// The code of cell i, from byte 8 + i / 4; 0 from cell 96 on.
+pub fn cell(part: &[u8], i: usize) -> u8
+    ensures { λ r. ⌜ r ≡ cellOf (now (part .entry)) i ⌝ }
 {
     if 96 <= i {
         return 0;
     }
-    let low = 2 * (i % 4);
-    (copy[i / 4] >> low) % 4
-}
-
-// The code of cell i, read from a copy of bytes 8 to 31; 0 from cell 96 on.
-pub fn cell(part: &[u8], i: usize) -> u8
-    ensures { λ r. ⌜ r ≡ cellOf (now (part .entry)) i ⌝ }
-{
-    let copy = cell_bytes(part);
-    copied_cell(&copy, i)
+    code_in(byte(part, 8 + i / 4), i)
 }

@@ -1,16 +1,15 @@
 // A record's codes, column by column.
 ghost use mathlib.Core.Path.{_≡_};
-ghost use Prim.Native.Nat.{_-_, _≤_, min};
+ghost use Prim.Native.Nat.{ℕ, _*_, _/_, _≤_, _<_, min};
 ghost use lib.ListN.{length, getD, replicate};
-ghost use Rattle.below.specs.Below.{if_then_else_, _<?_, _≤?_, _and_, tab};
-ghost use Rattle.records.specs.Algorithm.Copies.{copiedCell};
-ghost use Rattle.records.specs.Record.{codeAt};
-use crate::fields::cell_bytes;
-use crate::fields::copied_cell;
+ghost use Rattle.below.specs.Below.{if_then_else_, _<?_, tab};
+ghost use Rattle.records.specs.Record.{cellOf, codeAt};
+use crate::fields::byte;
+use crate::fields::cell;
 use crate::fields::span;
 use crate::fields::start;
 
-fn smaller(a: usize, b: usize) -> usize
+pub(crate) fn smaller(a: usize, b: usize) -> usize
     ensures { λ r. ⌜ r ≡ min a b ⌝ }
 {
     if a < b { a } else { b }
@@ -27,14 +26,33 @@ pub fn clear(row: &mut [u8])
     }
 }
 
-// Writes the cells from cell 0 on to the columns from start to end, by a copy of the cell bytes; the other columns keep what they hold.
-fn write_cells(start: usize, end: usize, copy: &[u8; 24], row: &mut [u8])
-    requires { ⌜ end ≤ length (now row) ⌝ }
-    ensures { λ _. ⌜ now (row .exit) ≡ tab (length (now (row .entry))) (λ c. if start ≤? c and c <? end then copiedCell (now (copy .entry)) (c - start) else getD (now (row .entry)) c 0) ⌝ }
+// Writes the cells of whole bytes, four to a byte, from cell 0 on: as many as have their place in the row.
+fn write_bytes(part: &[u8], row: &mut [u8])
+    requires { ⌜ length (now row) ≤ 96 ⌝ }
+    ensures { λ _. ⌜ ((c : ℕ) → c < 4 * (length (now (row .entry)) / 4) → getD (now (row .exit)) c 0 ≡ cellOf (now (part .entry)) c) ⌝ }
 {
-    let mut c = start;
-    while c < end {
-        row[c] = copied_cell(copy, c - start);
+    let count = row.len() / 4;
+    let mut b = 0;
+    while b < count {
+        let codes = byte(part, 8 + b);
+        let c = 4 * b;
+        row[c] = codes % 4;
+        row[c + 1] = codes / 4 % 4;
+        row[c + 2] = codes / 16 % 4;
+        row[c + 3] = codes / 64 % 4;
+        b += 1;
+    }
+}
+
+// Writes the cells from cell 0 on, one to each place: by whole bytes, and the last three at most one by one.
+fn write_cells(part: &[u8], row: &mut [u8])
+    requires { ⌜ length (now row) ≤ 96 ⌝ }
+    ensures { λ _. ⌜ now (row .exit) ≡ tab (length (now (row .entry))) (cellOf (now (part .entry))) ⌝ }
+{
+    write_bytes(part, row);
+    let mut c = 4 * (row.len() / 4);
+    while c < row.len() {
+        row[c] = cell(part, c);
         c += 1;
     }
 }
@@ -43,11 +61,10 @@ fn write_cells(start: usize, end: usize, copy: &[u8; 24], row: &mut [u8])
 pub fn fill_row(n: usize, part: &[u8], row: &mut [u8])
     ensures { λ _. ⌜ now (row .exit) ≡ tab (length (now (row .entry))) (λ c. if c <? n then codeAt (now (part .entry)) c else 0) ⌝ }
 {
-    let s = start(part) as usize;
-    let k = span(part) as usize;
-    let copy = cell_bytes(part);
     clear(row);
-    let shown = smaller(n, row.len());
-    let end = smaller(s + k, shown);
-    write_cells(s, end, &copy, row);
+    let s = start(part) as usize;
+    let k = smaller(span(part) as usize, 96);
+    let end = smaller(s + k, smaller(n, row.len()));
+    let first = smaller(s, end);
+    write_cells(part, &mut row[first..end]);
 }

@@ -1,75 +1,65 @@
 // The rules of a table, tested in the paper's order.
 ghost use mathlib.Core.Path.{_≡_};
 ghost use Prim.Native.Nat.{_<_, _≤_};
-ghost use Rattle.below.specs.Below.{_==_, _≤?_, _and_, isnt, anyBelow};
+ghost use lib.ListN.{length};
+ghost use Rattle.below.specs.Below.{if_then_else_, _==_, _≤?_, _and_, isnt, anyBelow};
 ghost use Rattle.records.specs.Record.{tagOf, spanOf, cellOf};
-ghost use Rattle.records.specs.Algorithm.Copies.{copiedCell};
 ghost use Rattle.records.specs.Table.{fragments, recordAt};
 ghost use Rattle.records.specs.Outcome.{accepted, outcomeOf};
 ghost use Rattle.records.specs.Rules.{decide, outOfFrame, strayBits, openEnd, recordRules, tableRules, sizeRules, tableVerdict};
 use crate::Outcome;
+use crate::fields::byte;
 use crate::fields::byte7;
-use crate::fields::cell_bytes;
-use crate::fields::copied_cell;
+use crate::fields::cell;
+use crate::fields::code_in;
 use crate::fields::span;
 use crate::fields::start;
 use crate::fields::tag;
+use crate::rows::smaller;
 use crate::table::record_at;
 
-// Whether any cell lies after the span and is not 0, in a copy of the cell bytes.
-fn any_copied_stray(copy: &[u8; 24], span: usize) -> bool
-    ensures { λ r. ⌜ r ≡ anyBelow 96 (λ k. span ≤? k and isnt (copiedCell (now (copy .entry)) k == 0)) ⌝ }
+// 6 and 8 in one pass over the first cells: 3 where one of them has that code; else 0 where one is a hole; else 1.
+fn worst_code(part: &[u8], end: usize) -> usize
+    requires { ⌜ (length (now part) ≡ 32) × (end ≤ 96) ⌝ }
+    ensures { λ r. ⌜ r ≡ (if anyBelow end (λ k. cellOf (now (part .entry)) k == 3) then 3 else if anyBelow end (λ k. cellOf (now (part .entry)) k == 0) then 0 else 1) ⌝ }
 {
-    let mut k = span;
-    while k < 96 {
-        if copied_cell(copy, k) != 0 {
-            return true;
+    let mut least = 1;
+    let mut k = 0;
+    while k < end {
+        let code = code_in(part[8 + k / 4], k) as usize;
+        if code == 3 {
+            return 3;
         }
+        least = smaller(least, code);
         k += 1;
     }
-    false
+    least
 }
 
-// Whether any cell lies after the span and is not 0.
+// Whether any cell lies after the span and is not 0: what is left of the byte in which the span ends, then byte by byte.
 fn any_stray(part: &[u8]) -> bool
     ensures { λ r. ⌜ r ≡ anyBelow 96 (λ k. spanOf (now (part .entry)) ≤? k and isnt (cellOf (now (part .entry)) k == 0)) ⌝ }
 {
-    let end = span(part) as usize;
-    let copy = cell_bytes(part);
-    any_copied_stray(&copy, end)
-}
-
-// Whether one of the first cells has the code, in a copy of the cell bytes.
-fn any_copied_code(copy: &[u8; 24], end: usize, code: u8) -> bool
-    ensures { λ r. ⌜ r ≡ anyBelow end (λ k. copiedCell (now (copy .entry)) k == code) ⌝ }
-{
-    let mut k = 0;
-    while k < end {
-        if copied_cell(copy, k) == code {
+    let mut k = span(part) as usize;
+    while k < 96 {
+        let low = 2 * (k % 4);
+        if byte(part, 8 + k / 4) >> low != 0 {
             return true;
         }
-        k += 1;
+        k = 4 * (k / 4) + 4;
     }
     false
 }
 
-// Whether a cell of the span has the code.
-fn any_code(part: &[u8], code: u8) -> bool
-    ensures { λ r. ⌜ r ≡ anyBelow (spanOf (now (part .entry))) (λ k. cellOf (now (part .entry)) k == code) ⌝ }
-{
-    let end = span(part) as usize;
-    let copy = cell_bytes(part);
-    any_copied_code(&copy, end, code)
-}
-
-// Whether a record before i has the tag.
+// Whether a record before i has the tag. All of them are whole, so `record_at` and its test are not needed.
 fn any_tag(table: &[u8], sought: u32, i: usize) -> bool
     requires { ⌜ i ≤ fragments (now table) ⌝ }
     ensures { λ r. ⌜ r ≡ anyBelow i (λ h. tagOf (recordAt (now (table .entry)) h) == sought) ⌝ }
 {
     let mut h = 0;
     while h < i {
-        if tag(record_at(table, h)) == sought {
+        let from = 32 * h;
+        if tag(&table[from..from + 32]) == sought {
             return true;
         }
         h += 1;
@@ -113,11 +103,10 @@ fn open_end(part: &[u8]) -> bool
     if k == 0 {
         return false;
     }
-    let copy = cell_bytes(part);
-    if copied_cell(&copy, 0) == 0 {
+    if cell(part, 0) == 0 {
         return true;
     }
-    copied_cell(&copy, k - 1) == 0
+    cell(part, k - 1) == 0
 }
 
 // Record i by 4 to 9. A hole of the span lies between two calls once 6 and 7 are kept.
@@ -132,13 +121,14 @@ fn record_fault(n: usize, table: &[u8], i: usize) -> Outcome
     if stray_bits(part) {
         return Outcome::Refused(5, i);
     }
-    if any_code(part, 3) {
+    let worst = worst_code(part, span(part) as usize);
+    if worst == 3 {
         return Outcome::Refused(6, i);
     }
     if open_end(part) {
         return Outcome::Refused(7, i);
     }
-    if any_code(part, 0) {
+    if worst == 0 {
         return Outcome::Refused(8, i);
     }
     if any_tag(table, tag(part), i) {

@@ -1,9 +1,10 @@
-use Prim.Native.Nat.{_-_, _≤_}
+use Prim.Native.Nat.{ℕ, _+_, _*_, _-_, _≤_}
+use native.Mathlib.Nat.{add-sub-cancel-left}
 use mathlib.Core.Path.{_≡_, sym, ap, _∙_}
+use lib.ListN.{length, take, drop}
 use Rattle.below.specs.Below.{_==_}
 use Rattle.records.specs.Record.{tagOf}
-use Rattle.records.specs.Table.{recordAt}
-use Rattle.records.proofs.PartLaws.{part-record}
+use Rattle.records.specs.Table.{fragments, recordAt}
 use Rattle.below.proofs.SearchLaws.{NoneBelow, none-yet, none-more, any-hit, any-none, ==-true, ==-false}
 use borrow.Author.Needs.{needs}
 use native.Mathlib.Omega.{arith}
@@ -16,22 +17,23 @@ Inv-loop table sought i h₀ h = (h ≤ i) × NoneBelow h (λ j. tagOf (recordAt
 abbrev μ-loop : tie.MeasureT-loop
 μ-loop table sought i h₀ h = i - h
 
--- the tag that the turn reads is that of record h
+-- record h is whole, and its tag is what the turn reads
+whole : (c : tie.In-loop Inv-loop μ-loop) → 32 * c .before .loop .h + 32 ≤ length (c .before .before .before .args .table .now)
+unfolding fragments
+whole c = let h = c .before .before .before .pre in omega arith
+
 tag-read : (c : tie.After-tag Inv-loop μ-loop) → c .tag .result ≡ tagOf (recordAt (c .before .before .before .before .before .args .table .now) (c .before .before .before .loop .h))
-tag-read c = c .tag .ensures ∙ ap tagOf (part-record _ (c .before .before .before .loop .h) _ (c .before .record-at .ensures) (omega arith))
+unfolding recordAt
+tag-read c = c .tag .ensures ∙ ap (λ (k : ℕ). tagOf (take k (drop (32 * c .before .before .before .loop .h) (c .before .before .before .before .before .args .table .now)))) (add-sub-cancel-left (32 * c .before .before .before .loop .h) 32)
 
 loop-holds : tie.Need-loop-holds Inv-loop μ-loop
 loop-holds c = (search needs, none-yet _)
 
 returns : tie.Need-returns Inv-loop μ-loop
-returns c =
-    let loop = c .before .before .before .before .loop in
-    sym (any-hit _ _ (loop .h) (omega arith) (==-true _ _ (sym (tag-read (c .before)) ∙ c .if1 .taken)))
+returns c = sym (any-hit _ _ (c .before .before .before .before .loop .h) (omega arith) (==-true _ _ (sym (tag-read (c .before)) ∙ c .if1 .taken)))
 
 loop-again : tie.Need-loop-again Inv-loop μ-loop
-loop-again c =
-    let loop = c .before .before .before .before .loop in
-    (search needs, none-more _ _ (loop .inv .1) (==-false _ _ (λ e. c .if1 .left (tag-read (c .before) ∙ e))))
+loop-again c = (search needs, none-more _ _ (c .before .before .before .before .loop .inv .1) (==-false _ _ (λ e. c .if1 .left (tag-read (c .before) ∙ e))))
 
 returns-2 : tie.Need-returns-2 Inv-loop μ-loop
 returns-2 c = sym (any-none _ _ (c .before .loop .h) (c .loop-test .left) (c .before .loop .inv .1))
@@ -43,7 +45,11 @@ any-tag-spec =
     Inv-loop
     μ-loop
     loop-holds
-    (λ c κs. search needs)
+    (λ c. let h = whole c in search needs)
+    (λ c. let h = whole c in search needs)
+    (λ c. search needs)
+    (λ c. search needs)
+    (λ c. let h = whole c in search needs)
     (λ c κs. search needs)
     returns
     (λ c. search needs)
