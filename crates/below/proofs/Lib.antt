@@ -3,4 +3,5 @@ pub mod SearchLaws
 pub mod TestLaws
 pub mod RowLaws
 pub mod FillLaws
+pub mod CountLaws
 pub mod MemberLaws

@@ -1,4 +1,4 @@
--- A table that keeps rules 1 to 9 is accepted by check, S and F on buffers of the right lengths, and refused by C under 12 alone.
+-- A table that keeps rules 1 to 9 is accepted by check, conflict_counts, S and F on buffers of the right lengths, and refused by C under 12 alone.
 -- Assumes nothing.
 use mathlib.Core.Path.{_≡_, sym, ap, _∙_}
 use mathlib.Core.Logic.{_⊎_, inl, inr}
@@ -13,7 +13,7 @@ use Rattle.records.proofs.RuleLaws.{decide-none, stage-kept, stage-last, accept
 use Rattle.records.proofs.KeptLaws.{rule-unbroken}
 use Rattle.conflicts.specs.Grid.{Grid, gridOf}
 use Rattle.conflicts.specs.Answer.{answerSize}
-use Rattle.conflicts.specs.Services.{workRules, lengthRule, depthRules, checkRules, removalRules, correctionRules, checkLeaves, snpRemovalLeaves, fragmentRemovalLeaves, correctionsLeaves, lentStages, correctionStages}
+use Rattle.conflicts.specs.Services.{workRules, lengthRule, depthRules, checkRules, conflictCountsRules, removalRules, correctionRules, checkLeaves, conflictCountsLeaves, snpRemovalLeaves, fragmentRemovalLeaves, correctionsLeaves, lentStages, correctionStages}
 use Rattle.conflicts.specs.Served.{Accepts, NoneDeep, TooDeep, RefusesDeep, Served}
 use Rattle.conflicts.proofs.DeepLaws.{deep-or-none, deep-refused, deep-kept}
 
@@ -52,6 +52,15 @@ module _ (n m : ℕ) (table : List ℕ) (e : tableVerdict n table ≡ accepted m
 
   -- ---- the rules of the services
 
+  -- conflict_counts'
+  pub counts-kept : (counts : List ℕ) → length counts ≡ m * m → (v : Verdict) → decide (conflictCountsRules n table counts) v ≡ v
+  unfolding conflictCountsRules
+  counts-kept counts exact v =
+      stage-kept _ _ 0 v 0 (sizes-pass _)
+      ∙ stage-kept _ _ 0 v 0 (length-kept counts _ _ [] (exact ∙ ap (λ (k : ℕ). k * k) (sym count-is)) ∙ decide-none _)
+      ∙ stage-last _ v
+      ∙ records-pass v
+
   module _ (answer : List ℕ) (exact : length answer ≡ answerSize m n) where
     answer-kept : (rest : List Rule) (v : Verdict) → decide (lengthRule answer (answerSize (fragments table) n) ∷ rest) v ≡ decide rest v
     answer-kept rest v = length-kept answer _ v rest (exact ∙ ap (λ (k : ℕ). answerSize k n) (sym count-is))
@@ -86,9 +95,10 @@ module _ (n m : ℕ) (table : List ℕ) (e : tableVerdict n table ≡ accepted m
   -- ---- the outcomes
 
   pub served : Served n m table
-  unfolding checkLeaves snpRemovalLeaves fragmentRemovalLeaves correctionsLeaves
+  unfolding checkLeaves conflictCountsLeaves snpRemovalLeaves fragmentRemovalLeaves correctionsLeaves
   served = record {
     check = λ answer exact. record { count = _; is = check-kept answer exact _ };
+    counts = λ counts exact. record { count = _; is = counts-kept counts exact _ };
     snps = λ answer work exact enough. record { count = _; is = removal-kept answer exact work enough _ };
     fragments = λ answer work exact enough. record { count = _; is = removal-kept answer exact work enough _ };
     corrections = λ answer output work exact whole enough. by-depth (gridOf n table) _ _ (correction-kept answer exact work enough output whole) (deep-or-none (gridOf n table));

@@ -1,4 +1,5 @@
 pub mod GridLaws
+pub mod CountLaws
 pub mod MarkLaws
 pub mod ChoiceLaws
 pub mod OrderLaws

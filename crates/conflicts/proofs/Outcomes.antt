@@ -17,11 +17,12 @@ use Rattle.records.proofs.RuleLaws.{accepted-count}
 use Rattle.below.proofs.BelowLaws.{decided, if-true, if-false}
 use Rattle.conflicts.specs.Choice.{zeros, keepAll}
 use Rattle.conflicts.specs.Grid.{Grid, gridOf}
+use Rattle.conflicts.specs.Counts.{conflictCounts}
 use Rattle.conflicts.specs.Sides.{errorFree}
 use Rattle.conflicts.specs.Removal.{snpKeepMarks, fragmentKeepMarks}
 use Rattle.conflicts.specs.Answer.{checkAnswer, snpAnswer, fragmentAnswer, correctionAnswer, correctedTable}
 use Rattle.conflicts.specs.Minimality.{everything, TwoClasses, ErrorFreeAnswer, SnpRemoval, FragmentRemoval}
-use Rattle.conflicts.specs.Services.{written, writtenOnYes, workAfter, checkRules, removalRules, unpackLeaves, packLeaves, checkLeaves, snpRemovalLeaves, fragmentRemovalLeaves, correctionsLeaves}
+use Rattle.conflicts.specs.Services.{written, writtenOnYes, workAfter, checkRules, removalRules, unpackLeaves, packLeaves, checkLeaves, conflictCountsLeaves, snpRemovalLeaves, fragmentRemovalLeaves, correctionsLeaves}
 use Rattle.conflicts.proofs.Minimality.{checked, errorFree-classes, snpRemoval, fragmentRemoval}
 
 -- ---- check
@@ -122,6 +123,10 @@ module _ (n : ℕ) (number place : ℕ) where
   pub check-refused : (table answer : List ℕ) → checkLeaves n table answer .outcome ≡ refused number place → checkLeaves n table answer .answer ≡ answer
   unfolding checkLeaves
   check-refused table answer e = ap (λ (v : Verdict). writtenOnYes v (checkAnswer (gridOf n table)) answer) e
+
+  pub counts-refused : (table counts : List ℕ) → conflictCountsLeaves n table counts .outcome ≡ refused number place → conflictCountsLeaves n table counts .counts ≡ counts
+  unfolding conflictCountsLeaves
+  counts-refused table counts e = unwritten e (conflictCounts (gridOf n table)) counts
 
   pub snp-refused : (table answer work : List ℕ) → snpRemovalLeaves n table answer work .outcome ≡ refused number place
       → (snpRemovalLeaves n table answer work .answer ≡ answer) × (snpRemovalLeaves n table answer work .work ≡ work)

@@ -14,13 +14,14 @@ use Rattle.records.specs.Outcome.{Verdict, accepted}
 use Rattle.records.specs.Rules.{decide, outOfFrame, strayBits, unknownCall, openEnd, gapIn, gapped, tagTwice, recordRules, tableRules, sizeRules}
 use Rattle.conflicts.specs.Choice.{choices, passing, some, first, leastOf, firstLeast, marked, zeros, keepAll, keepLists}
 use Rattle.conflicts.specs.Grid.{gridOf, withCells, callsConflict, conflictOn, conflictOnKept, depth}
+use Rattle.conflicts.specs.Counts.{conflictCount, conflictCounts}
 use Rattle.conflicts.specs.Sides.{sidesOf, sideLists, sameSide, lawful, errorFree, firstSides}
 use Rattle.conflicts.specs.Removal.{snpKeepMarks, fragmentKeepMarks}
 use Rattle.conflicts.specs.Corrections.{correctionCost, sideCount, sidePrice, majorityLetter, columnCost, cost, leastCostSides, sideLetter, correctedCell, corrected, differs, cellCount, changedCells}
 use Rattle.conflicts.specs.Haplotypes.{sideCall, haplotype, haplotypes}
 use Rattle.conflicts.specs.Blocks.{linked, reached, lowest, block}
 use Rattle.conflicts.specs.Answer.{answerSize, answer, checkAnswer, snpAnswer, fragmentAnswer, correctedGrid, correctionAnswer, rewrittenCode, rewritten, correctedTable}
-use Rattle.conflicts.specs.Services.{workRules, lengthRule, depthRules, packSizeRules, fragmentRules, unpackRules, packRules, checkRules, lentStages, removalRules, correctionStages, correctionRules, unpackLeaves, packLeaves, findLeaves, checkLeaves, snpRemovalLeaves, fragmentRemovalLeaves, correctionsLeaves}
+use Rattle.conflicts.specs.Services.{workRules, lengthRule, depthRules, packSizeRules, fragmentRules, unpackRules, packRules, checkRules, conflictCountsRules, lentStages, removalRules, correctionStages, correctionRules, unpackLeaves, packLeaves, findLeaves, checkLeaves, conflictCountsLeaves, snpRemovalLeaves, fragmentRemovalLeaves, correctionsLeaves}
 use Rattle.conflicts.specs.Host.{hostRead}
 use Rattle.records.proofs.TrialTools.{sameVerdict, sameList}
 use Rattle.records.proofs.TrialText.{countIn, answerIn, marks, cells, frag, tableFrom}
@@ -32,6 +33,7 @@ pub data Call : Type 0 where
   unpack : ℕ → List ℕ → List ℕ → List ℕ → Call
   pack : ℕ → List ℕ → List ℕ → List ℕ → Call
   check : ℕ → List ℕ → List ℕ → Call
+  counts : ℕ → List ℕ → List ℕ → Call
   S : ℕ → List ℕ → List ℕ → List ℕ → Call
   F : ℕ → List ℕ → List ℕ → List ℕ → Call
   C : ℕ → List ℕ → List ℕ → List ℕ → List ℕ → Call
@@ -41,15 +43,17 @@ unfoldable pub leaves : Call → Verdict × List (List ℕ)
 leaves (unpack n table cells tags) = let r = unpackLeaves n table cells tags in (r .outcome, r .cells ∷ r .tags ∷ [])
 leaves (pack n cells tags table) = let r = packLeaves n cells tags table in (r .outcome, r .table ∷ [])
 leaves (check n table answer) = let r = checkLeaves n table answer in (r .outcome, r .answer ∷ [])
+leaves (counts n table bytes) = let r = conflictCountsLeaves n table bytes in (r .outcome, r .counts ∷ [])
 leaves (S n table answer work) = let r = snpRemovalLeaves n table answer work in (r .outcome, r .answer ∷ [])
 leaves (F n table answer work) = let r = fragmentRemovalLeaves n table answer work in (r .outcome, r .answer ∷ [])
 leaves (C n table answer output work) = let r = correctionsLeaves n table answer output work in (r .outcome, r .answer ∷ r .table ∷ [])
 
--- its work buffer; none is lent to unpack, pack and check
+-- its work buffer; none is lent to unpack, pack, check and conflict_counts
 workLeft : Call → List ℕ
 workLeft (unpack n table cells tags) = []
 workLeft (pack n cells tags table) = []
 workLeft (check n table answer) = []
+workLeft (counts n table bytes) = []
 workLeft (S n table answer work) = snpRemovalLeaves n table answer work .work
 workLeft (F n table answer work) = fragmentRemovalLeaves n table answer work .work
 workLeft (C n table answer output work) = correctionsLeaves n table answer output work .work
@@ -59,6 +63,7 @@ lent : Call → List (List ℕ)
 lent (unpack n table cells tags) = cells ∷ tags ∷ []
 lent (pack n cells tags table) = table ∷ []
 lent (check n table answer) = answer ∷ []
+lent (counts n table bytes) = bytes ∷ []
 lent (S n table answer work) = answer ∷ []
 lent (F n table answer work) = answer ∷ []
 lent (C n table answer output work) = answer ∷ output ∷ []
@@ -84,6 +89,10 @@ unpackOn n table = unpack n table (nines (fragments table * n)) (nines (fragment
 -- check with such a buffer
 unfoldable pub checkOn : ℕ → List ℕ → Call
 checkOn n table = check n table (answer9 n table)
+
+-- conflict_counts with such a buffer
+unfoldable pub countsOn : ℕ → List ℕ → Call
+countsOn n table = counts n table (nines (fragments table * fragments table))
 
 -- S with such buffers
 unfoldable pub SOn : ℕ → List ℕ → Call
@@ -123,23 +132,27 @@ corrects call line table = accepts call (countIn line) (answerIn line ∷ table 
 unfoldable pub freeOn : ℕ → List ℕ → List ℕ → ℕ
 freeOn n table keepCols = bit (errorFree 2 (gridOf n table) keepCols (keepAll (fragments table)))
 
+-- on how many of the columns that these marks keep fragments i and j of a table conflict
+unfoldable pub countOn : ℕ → List ℕ → List ℕ → ℕ → ℕ → ℕ
+countOn n table keepCols i j = conflictCount (gridOf n table) keepCols i j
+
 -- a call leaves this outcome and these buffers
 left : Call → Verdict → List (List ℕ) → Bool
 left call outcome buffers = let r = leaves call in sameVerdict (r .0) outcome && sameList (sameList eqb) (r .1) buffers
 
 -- a trial passes; to unfold this unfolds all that a trial computes with
 passes : Trial → Bool
-unfolding marks cells frag tableFrom leaves workLeft lent nines work9 answer9 unpackOn checkOn SOn FOn COn answers corrects freeOn left sameVerdict sameList hostRead
+unfolding marks cells frag tableFrom leaves workLeft lent nines work9 answer9 unpackOn checkOn countsOn SOn FOn COn answers corrects freeOn countOn left sameVerdict sameList hostRead
     _==_ _<?_ _≤?_ _and_ _or_ isnt allBelow anyBelow sumBelow countBelow firstBelow endBelow tab tabFrom concat
     littleEndian tagOf startOf spanOf byte7Of isCall cellOf codeAt fragments recordAt partStart partLength position unpackedCells unpackedTags
     bytesOf cellBytes callsEnd callsStart callsSpan cut laidOut recordOf rowOf packed
     decide outOfFrame strayBits unknownCall openEnd gapIn gapped tagTwice recordRules tableRules sizeRules
-    choices passing some first leastOf firstLeast marked zeros keepAll keepLists gridOf withCells callsConflict conflictOn conflictOnKept depth
+    choices passing some first leastOf firstLeast marked zeros keepAll keepLists gridOf withCells callsConflict conflictOn conflictOnKept depth conflictCount conflictCounts
     sidesOf sideLists sameSide lawful errorFree firstSides snpKeepMarks fragmentKeepMarks
     correctionCost sideCount sidePrice majorityLetter columnCost cost leastCostSides sideLetter correctedCell corrected differs cellCount changedCells
     sideCall haplotype haplotypes linked reached lowest block answerSize answer checkAnswer snpAnswer fragmentAnswer correctedGrid correctionAnswer rewrittenCode rewritten correctedTable
-    workRules lengthRule depthRules packSizeRules fragmentRules unpackRules packRules checkRules lentStages removalRules correctionStages correctionRules
-    unpackLeaves packLeaves findLeaves checkLeaves snpRemovalLeaves fragmentRemovalLeaves correctionsLeaves
+    workRules lengthRule depthRules packSizeRules fragmentRules unpackRules packRules checkRules conflictCountsRules lentStages removalRules correctionStages correctionRules
+    unpackLeaves packLeaves findLeaves checkLeaves conflictCountsLeaves snpRemovalLeaves fragmentRemovalLeaves correctionsLeaves
 passes (accepts call count buffers) = left call (accepted count) buffers
 passes (keeps call outcome) = left call outcome (lent call)
 passes (works call buffer) = sameList eqb (workLeft call) buffer

@@ -9,7 +9,7 @@ use Rattle.records.specs.Outcome.{accepted, refused}
 use Rattle.records.proofs.TrialTools.{filled}
 use Rattle.conflicts.specs.Host.{hostCode, hostOutcome}
 use Rattle.records.proofs.TrialText.{marks, cells, frag, tableFrom}
-use Rattle.conflicts.proofs.TrialCalls.{unpack, pack, check, S, F, C, leaves, nines, work9, unpackOn, checkOn, SOn, FOn, COn, Trial, accepts, keeps, works, finds, equals, reads, answers, corrects, freeOn, failing}
+use Rattle.conflicts.proofs.TrialCalls.{unpack, pack, check, counts, S, F, C, leaves, nines, work9, unpackOn, checkOn, countsOn, SOn, FOn, COn, Trial, accepts, keeps, works, finds, equals, reads, answers, corrects, freeOn, countOn, failing}
 
 -- ---- the tables of paper 01's trials
 
@@ -204,6 +204,34 @@ pairTrials =
     ∷ equals (freeOn 3 holed (marks "111")) 0
     ∷ []
 
+-- how often two fragments disagree (paper 02, T-06)
+pub countTrials : List Trial
+unfolding printed holed same three callless apart
+countTrials =
+    -- AA-, BAA, -BB: the first two in column 0, the first and the last in column 1, the last two in columns 1 and 2
+    accepts (countsOn 3 printed) 3 ((0 ∷ 1 ∷ 1 ∷ 1 ∷ 0 ∷ 2 ∷ 1 ∷ 2 ∷ 0 ∷ []) ∷ [])
+    -- AA and BB in both columns; AA and AA in none
+    ∷ accepts (countsOn 2 (tableFrom 1 "AA, BB")) 2 ((0 ∷ 2 ∷ 2 ∷ 0 ∷ []) ∷ [])
+    ∷ accepts (countsOn 2 same) 2 ((0 ∷ 0 ∷ 0 ∷ 0 ∷ []) ∷ [])
+    -- no records; a fragment without calls; fragments that share no column
+    ∷ accepts (countsOn 0 []) 0 ([] ∷ [])
+    ∷ accepts (countsOn 128 []) 0 ([] ∷ [])
+    ∷ accepts (countsOn 2 callless) 4 ((0 ∷ 0 ∷ 0 ∷ 0 ∷ 0 ∷ 0 ∷ 1 ∷ 1 ∷ 0 ∷ 1 ∷ 0 ∷ 2 ∷ 0 ∷ 1 ∷ 2 ∷ 0 ∷ []) ∷ [])
+    ∷ accepts (countsOn 2 apart) 2 ((0 ∷ 0 ∷ 0 ∷ 0 ∷ []) ∷ [])
+    -- of the kept columns alone
+    ∷ equals (countOn 3 printed (marks "101") 1 2) 1
+    ∷ equals (countOn 3 printed (marks "011") 0 1) 0
+    -- a table that is not error-free; a table that check refuses
+    ∷ accepts (countsOn 2 three) 3 ((0 ∷ 1 ∷ 1 ∷ 1 ∷ 0 ∷ 2 ∷ 1 ∷ 2 ∷ 0 ∷ []) ∷ [])
+    ∷ keeps (countsOn 3 holed) (refused 8 2)
+    -- 3, 1, 2, 11, and the records
+    ∷ keeps (counts 129 (printed ++ 0 ∷ []) []) (refused 3 0)
+    ∷ keeps (counts 3 (nines 4129) []) (refused 1 0)
+    ∷ keeps (counts 3 (nines 4128) []) (refused 2 0)
+    ∷ keeps (counts 3 holed (nines 8)) (refused 11 0)
+    ∷ keeps (counts 3 printed (nines 10)) (refused 11 0)
+    ∷ []
+
 -- rules, in order
 pub ruleTrials : List Trial
 unfolding printed holed lone deep
@@ -307,8 +335,8 @@ hostTrials =
 
 -- all trials but paper 01's
 pub otherTrials : List Trial
-unfolding aboveTrials answerTrials pairTrials ruleTrials workTrials unpackTrials packTrials findTrials hostTrials
-otherTrials = aboveTrials ++ answerTrials ++ pairTrials ++ ruleTrials ++ workTrials ++ unpackTrials ++ packTrials ++ findTrials ++ hostTrials
+unfolding aboveTrials answerTrials pairTrials countTrials ruleTrials workTrials unpackTrials packTrials findTrials hostTrials
+otherTrials = aboveTrials ++ answerTrials ++ pairTrials ++ countTrials ++ ruleTrials ++ workTrials ++ unpackTrials ++ packTrials ++ findTrials ++ hostTrials
 
 -- all of these
 pub others-pass : failing 0 otherTrials ≡ []

@@ -1,5 +1,6 @@
 pub mod Choice
 pub mod Grid
+pub mod Counts
 pub mod Tally
 pub mod Sides
 pub mod Removal

@@ -1,4 +1,4 @@
--- What check, S, F and C say of a table that keeps rules 1 to 9, on buffers of the right lengths (paper 01, "Refused tables": a refusal "occurs under these conditions alone").
+-- What check, conflict_counts, S, F and C say of a table that keeps rules 1 to 9, on buffers of the right lengths (paper 01, "Refused tables": a refusal "occurs under these conditions alone").
 -- Assumes nothing.
 use mathlib.Core.Path.{_≡_}
 use mathlib.Core.Logic.{_⊎_}
@@ -8,7 +8,7 @@ use lib.ListN.{length}
 use Rattle.records.specs.Outcome.{Verdict, accepted, refused}
 use Rattle.conflicts.specs.Grid.{Grid, gridOf, depth}
 use Rattle.conflicts.specs.Answer.{answerSize}
-use Rattle.conflicts.specs.Services.{checkLeaves, snpRemovalLeaves, fragmentRemovalLeaves, correctionsLeaves}
+use Rattle.conflicts.specs.Services.{checkLeaves, conflictCountsLeaves, snpRemovalLeaves, fragmentRemovalLeaves, correctionsLeaves}
 
 -- "an acceptance with its count"
 pub record Accepts (verdict : Verdict) : Type 0 where
@@ -31,9 +31,10 @@ pub record RefusesDeep (g : Grid) (verdict : Verdict) : Type 0 where
   pub is : verdict ≡ refused 12 place
   pub deep : TooDeep g place
 
--- check, S and F accept; C accepts, or refuses by 12
+-- check, conflict_counts, S and F accept; C accepts, or refuses by 12
 pub record Served (n m : ℕ) (table : List ℕ) : Type 0 where
   pub check : (answer : List ℕ) → length answer ≡ answerSize m n → Accepts (checkLeaves n table answer .outcome)
+  pub counts : (counts : List ℕ) → length counts ≡ m * m → Accepts (conflictCountsLeaves n table counts .outcome)
   pub snps : (answer work : List ℕ) → length answer ≡ answerSize m n → 32768 ≤ length work → Accepts (snpRemovalLeaves n table answer work .outcome)
   pub fragments : (answer work : List ℕ) → length answer ≡ answerSize m n → 32768 ≤ length work → Accepts (fragmentRemovalLeaves n table answer work .outcome)
   pub corrections : (answer output work : List ℕ) → length answer ≡ answerSize m n → length output ≡ 32 * m → 32768 ≤ length work

@@ -1,4 +1,4 @@
--- The seven services: the rules of each in the order in which they are tested, and everything that a call leaves (paper 01, "Refused tables").
+-- The eight services: the rules of each in the order in which they are tested, and everything that a call leaves (paper 01, "Refused tables").
 -- Assumes nothing.
 use Prim.Native.Nat.{ℕ, zero, suc, _*_}
 use mathlib.Core.List.{List, [], _∷_, _++_}
@@ -10,6 +10,7 @@ use Rattle.records.specs.Outcome.{Verdict, accepted, refused}
 use Rattle.records.specs.Rules.{Rule, rule, decide, gapIn, sizeRules, tableRules}
 use Rattle.conflicts.specs.Choice.{zeros, keepAll}
 use Rattle.conflicts.specs.Grid.{Grid, gridOf, depth}
+use Rattle.conflicts.specs.Counts.{conflictCounts}
 use Rattle.conflicts.specs.Sides.{errorFree}
 use Rattle.conflicts.specs.Removal.{snpKeepMarks, fragmentKeepMarks}
 use Rattle.conflicts.specs.Corrections.{changedCells}
@@ -54,6 +55,10 @@ packRules n cells tags table =
 
 unfoldable pub checkRules : ℕ → List ℕ → List ℕ → List Rule
 checkRules n table answer = concat (sizeRules n table ∷ (lengthRule answer (answerSize (fragments table) n) ∷ []) ∷ tableRules n table ∷ [])
+
+-- conflict_counts': 3, 1, 2; 11, "counts not exactly m × m bytes"; the records
+unfoldable pub conflictCountsRules : ℕ → List ℕ → List ℕ → List Rule
+conflictCountsRules n table counts = concat (sizeRules n table ∷ (lengthRule counts (fragments table * fragments table) ∷ []) ∷ tableRules n table ∷ [])
 
 -- the first stages of S, F and C: 3, 1, 2; 10; 11 for the answer
 unfoldable pub lentStages : ℕ → List ℕ → List ℕ → List ℕ → List (List Rule)
@@ -129,6 +134,16 @@ checkLeaves n table answer =
     let g = gridOf n table in
     let v = decide (checkRules n table answer) (accepted (if errorFree 2 g (keepAll (g .n)) (keepAll (g .m)) then 0 else 1)) in
     record { outcome = v; answer = writtenOnYes v (checkAnswer g) answer }
+
+pub record Counted : Type 0 where
+  pub outcome : Verdict
+  pub counts : List ℕ
+
+-- conflict_counts: "fills m × m bytes with it for a table"; "returns m"
+unfoldable pub conflictCountsLeaves : ℕ → List ℕ → List ℕ → Counted
+conflictCountsLeaves n table counts =
+    let v = decide (conflictCountsRules n table counts) (accepted (fragments table)) in
+    record { outcome = v; counts = written v (conflictCounts (gridOf n table)) counts }
 
 pub record Removed : Type 0 where
   pub outcome : Verdict
