@@ -1,20 +1,17 @@
 -- Conflicts of calls and of fragments.
 -- Assumes nothing.
-use mathlib.Core.Path.{_≡_, refl, sym, ap, ap₂, _∙_}
+use mathlib.Core.Path.{_≡_, refl, sym, _∙_}
 use mathlib.Core.Logic.{_↔_, _⊎_, inl, inr}
 use mathlib.Core.Bool.{true, false}
-use mathlib.Core.List.{List, [], _∷_}
-use Prim.Native.Nat.{ℕ, _<_}
+use mathlib.Core.List.{[], _∷_}
+use Prim.Native.Nat.{ℕ}
 use native.Mathlib.Omega.{arith}
 use lib.Dec.{T}
-use lib.ListN.{length, getD}
-use Rattle.below.specs.Below.{_==_, _and_, _or_, anyBelow}
+use Rattle.below.specs.Below.{_==_, _and_, _or_}
 use Rattle.records.specs.Record.{isCall}
-use Rattle.below.proofs.BelowLaws.{both, left-of, right-of, or-left, or-right, or-cases, ==-eq, anyBelow-at, anyBelow-of, any-ext, isnt-T, T-isnt}
-use Rattle.conflicts.specs.Grid.{Grid, callsConflict, conflictOn, conflict, agree, conflictOnKept, rowsConflict}
-use Rattle.conflicts.specs.Choice.{marked, keepAll}
+use Rattle.below.proofs.BelowLaws.{both, left-of, right-of, or-left, or-right, or-cases, ==-eq, anyBelow-at, anyBelow-of, isnt-T, T-isnt}
+use Rattle.conflicts.specs.Grid.{Grid, callsConflict, conflict, agree}
 use Rattle.conflicts.specs.Minimality.{everything, TwoClasses, AgreeingClasses}
-use Rattle.conflicts.proofs.SideLaws.{kept-all}
 
 -- calls and holes against A: only B conflicts
 conflicts-with-A : callsConflict 0 1 ∷ callsConflict 1 1 ∷ callsConflict 2 1 ∷ callsConflict 3 1 ∷ [] ≡ false ∷ false ∷ true ∷ false ∷ []
@@ -56,14 +53,6 @@ conflict-self x t = go (or-cases _ _ t)
     go : T (x == 1 and x == 2) ⊎ T (x == 2 and x == 1) → ⊥
     go (inl s) = apart (left-of _ _ s) (right-of _ _ s)
     go (inr s) = apart (right-of _ _ s) (left-of _ _ s)
-
--- two rows conflict as the fragments of a matrix do whose rows they are
-pub rows-conflict : (g : Grid) (keepCols first second : List ℕ) (i j : ℕ) → length keepCols ≡ g .n
-    → ((c : ℕ) → c < g .n → getD first c 0 ≡ g .cell i c) → ((c : ℕ) → c < g .n → getD second c 0 ≡ g .cell j c) → rowsConflict keepCols first second ≡ conflictOnKept g keepCols i j
-unfolding rowsConflict conflictOnKept conflictOn
-rows-conflict g keepCols first second i j size one other =
-    ap (λ (k : ℕ). anyBelow k (λ c. marked keepCols c and callsConflict (getD first c 0) (getD second c 0))) size
-    ∙ any-ext (g .n) _ _ (λ c h. ap₂ (λ (x y : ℕ). marked keepCols c and callsConflict x y) (one c h) (other c h))
 
 -- two classes without conflicts are two classes of fragments that agree
 pub classes-agree : (g : Grid) → TwoClasses g everything everything ↔ AgreeingClasses g

@@ -1,23 +1,12 @@
--- A test at a kept place: it passes where the mark is not 0 and the test passes. A part of an array of marks.
+-- A part of an array of marks.
 -- Assumes nothing.
 use mathlib.Core.Path.{_≡_, refl, ap, ap₂, _∙_}
-use mathlib.Core.Bool.{Bool, false}
 use mathlib.Core.List.{List, _∷_}
 use Prim.Native.Nat.{ℕ, zero, suc, _-_, _≤_}
-use native.Mathlib.Nat.{pos-of-ne-zero, not-suc-le-zero, sub-zero}
+use native.Mathlib.Nat.{not-suc-le-zero, sub-zero}
 use native.Mathlib.Omega.{arith}
 use lib.ListN.{take, drop, replicate}
-use borrow.Author.Tests.{lt-ltb}
-use Rattle.below.specs.Below.{_<?_, _and_}
 use Rattle.conflicts.specs.Choice.{keepAll}
-
-pub unmarked : (x : ℕ) (b : Bool) → x ≡ 0 → false ≡ (0 <? x and b)
-unfolding _<?_ _and_
-unmarked x b e = rw e
-
-pub marked-test : (x : ℕ) (b : Bool) → (x ≡ 0 → ⊥) → b ≡ (0 <? x and b)
-unfolding _<?_ _and_
-marked-test x b f = rw (lt-ltb 0 x (pos-of-ne-zero f))
 
 -- the first n of 128 marks 1, as a part of their array
 take-replicate : (n k a : ℕ) → n ≤ k → take n (replicate k a) ≡ replicate n a

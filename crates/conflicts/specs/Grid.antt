@@ -3,7 +3,6 @@
 use Prim.Native.Nat.{ℕ}
 use mathlib.Core.Bool.{Bool}
 use mathlib.Core.List.{List}
-use lib.ListN.{length, getD}
 use Rattle.below.specs.Below.{_==_, _and_, _or_, isnt, allBelow, anyBelow, countBelow}
 use Rattle.records.specs.Record.{isCall, codeAt}
 use Rattle.records.specs.Table.{fragments, recordAt}
@@ -43,10 +42,6 @@ agree g i j = isnt (conflict g i j)
 -- two fragments conflict on a kept column
 unfoldable pub conflictOnKept : Grid → List ℕ → ℕ → ℕ → Bool
 conflictOnKept g keepCols i j = anyBelow (g .n) (λ c. marked keepCols c and conflictOn g c i j)
-
--- two fragments, each a row of cells, conflict on a kept column; past the end of a row there is a hole
-unfoldable pub rowsConflict : List ℕ → List ℕ → List ℕ → Bool
-rowsConflict keepCols first second = anyBelow (length keepCols) (λ c. marked keepCols c and callsConflict (getD first c 0) (getD second c 0))
 
 -- "a column is mixed if both A and B occur in it"
 unfoldable pub mixed : Grid → ℕ → Bool

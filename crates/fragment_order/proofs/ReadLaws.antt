@@ -1,24 +1,24 @@
 -- What is read of a fragment's row, which looks only at its n columns, and of a side's state.
 -- Assumes nothing.
 use mathlib.Core.Path.{_≡_, refl, sym, ap, ap₂, subst, _∙_}
-use mathlib.Core.Bool.{Bool, true, false}
+use mathlib.Core.Bool.{Bool, not}
 use mathlib.Core.List.{List}
 use Prim.Native.Nat.{ℕ, zero, suc, _+_, _*_, _-_, _≤_, _<_}
 use native.Mathlib.Omega.{arith}
 use lib.ListN.{length, getD, take, drop, length-drop}
 use lib.Seq.{getD-take, getD-drop, length-take-le}
-use Rattle.below.specs.Below.{if_then_else_, bit, isnt, firstBelow, endBelow, _==_, _<?_, _and_}
+use Rattle.below.specs.Below.{if_then_else_, bit, isnt, firstBelow, endBelow, _==_, _<?_}
 use Rattle.records.specs.Record.{isCall}
 use Rattle.records.specs.Writing.{callsStart, callsEnd, codesOf}
-use Rattle.below.proofs.BelowLaws.{any-ext, is-true}
+use Rattle.below.proofs.SearchLaws.{==-true, ==-false, <?-true, <?-false}
 use Rattle.records.proofs.ExtentLaws.{endBelow-le}
 use Rattle.writing.proofs.ScanLaws.{start-le-end}
-use Rattle.conflicts.specs.Choice.{marked, keepAll}
-use Rattle.conflicts.specs.Grid.{Grid, agree, conflict, conflictOn, conflictOnKept, rowsConflict}
+use Rattle.conflicts.specs.Grid.{Grid, agree}
 use Rattle.matrix.specs.Algorithm.Matrix.{matrixGrid}
-use Rattle.conflicts.proofs.SideLaws.{kept-all, all-length}
-use Rattle.conflicts.proofs.GridLaws.{rows-conflict}
-use Rattle.fragment_order.specs.Algorithm.Fragments.{start, reach, stateReach, mayJoin}
+use Rattle.conflicts.proofs.CountLaws.{conflict-counted}
+use Rattle.masks.specs.Algorithm.Masks.{Masks}
+use Rattle.masks.proofs.LineLaws.{all-conflicts}
+use Rattle.fragment_order.specs.Algorithm.Fragments.{start, reach, stateReach, mayJoin, wordsAgree, wordsJoin}
 
 -- ---- a row
 
@@ -70,16 +70,6 @@ module _ (n : ℕ) (cells : List ℕ) (p k r : ℕ) (e : k ≡ n) (inside : p * 
   unfolding reach matrixGrid
   reach-read is = let e = part-read callsEnd (callsEnd-same n) is in (λ m. e, subst (λ (x : ℕ). x ≤ n) (sym e) (reach-within (matrixGrid 0 n cells) p))
 
--- the rows of two fragments, as parts of the cells, with every column kept
-pub conflict-read : (n : ℕ) (cells marks : List ℕ) (p q k l : ℕ) {b : Bool} → k ≡ n → l ≡ n → marks ≡ keepAll n → b ≡ rowsConflict marks (take k (drop (p * 128) cells)) (take l (drop (q * 128) cells))
-    → (m : ℕ) → b ≡ conflict (matrixGrid m n cells) p q
-unfolding conflictOnKept conflict matrixGrid _and_
-conflict-read n cells marks p q k l ek el kept is m =
-    let row : (r x : ℕ) → x ≡ n → (c : ℕ) → c < n → getD (take x (drop (r * 128) cells)) c 0 ≡ getD cells (r * 128 + c) 0 = λ r x e c h. getD-take x (drop (r * 128) cells) c 0 (omega arith) ∙ getD-drop (r * 128) cells c 0 in
-    is
-    ∙ rows-conflict (matrixGrid m n cells) marks _ _ p q (ap length kept ∙ all-length n) (row p k ek) (row q l el)
-    ∙ any-ext n _ _ (λ c h. ap (λ (b : Bool). b and conflictOn (matrixGrid m n cells) c p q) (ap (λ (x : List ℕ). marked x c) kept ∙ sym (is-true _ (kept-all n c h))))
-
 -- ---- a side's state
 
 suc-of : (s : ℕ) → 0 < s → s ≡ suc (s - 1)
@@ -89,10 +79,6 @@ opened : (g : Grid) (order : ℕ → ℕ) (s : ℕ) → 0 < s → reach g (order
 unfolding stateReach
 opened g order s h = ap (stateReach g order) (sym (suc-of s h))
 
-opened-join : (g : Grid) (order : ℕ → ℕ) (s i : ℕ) → 0 < s → mayJoin g order s i ≡ agree g (order (s - 1)) (order i)
-unfolding mayJoin
-opened-join g order s i h = ap (λ (x : ℕ). mayJoin g order x i) (suc-of s h)
-
 module _ (g : Grid) (order : ℕ → ℕ) (s : ℕ) where
   pub state-none : s ≡ 0 → 0 ≡ stateReach g order s
   unfolding stateReach
@@ -101,19 +87,29 @@ module _ (g : Grid) (order : ℕ → ℕ) (s : ℕ) where
   pub state-some : (p r : ℕ) → 0 < s → p ≡ order (s - 1) → r ≡ reach g p → r ≡ stateReach g order s
   state-some p r h e is = is ∙ ap (reach g) e ∙ opened g order s h
 
-  pub join-none : (i : ℕ) → s ≡ 0 → 1 ≡ bit (mayJoin g order s i)
-  unfolding mayJoin
-  join-none i e = rw e
+-- ---- agreement by the words of the fragments
 
-  module _ (i p q : ℕ) (h : 0 < s) (ep : p ≡ order (s - 1)) (eq : q ≡ order i) {b : Bool} (is : b ≡ conflict g p q) where
-    joined : mayJoin g order s i ≡ isnt b
-    unfolding agree
-    joined = opened-join g order s i h ∙ ap isnt (sym (is ∙ ap₂ (conflict g) ep eq))
+module _ (words : List ℕ) (order : ℕ → ℕ) (s i : ℕ) where
+  pub join-none : s ≡ 0 → 1 ≡ bit (wordsJoin words order s i)
+  unfolding wordsJoin
+  join-none e = rw e
 
-    pub join-no : b ≡ true → 0 ≡ bit (mayJoin g order s i)
-    unfolding isnt
-    join-no e = sym (ap bit (joined ∙ ap isnt e))
+  pub join-some : (p q : ℕ) → 0 < s → p ≡ order (s - 1) → q ≡ order i → {b : Bool} → b ≡ wordsAgree words p q → b ≡ wordsJoin words order s i
+  unfolding wordsJoin
+  join-some p q h ep eq is = is ∙ ap₂ (wordsAgree words) ep eq ∙ ap (λ (x : ℕ). wordsJoin words order x i) (sym (suc-of s h))
 
-    pub join-yes : b ≡ false → 1 ≡ bit (mayJoin g order s i)
-    unfolding isnt
-    join-yes e = sym (ap bit (joined ∙ ap isnt e))
+-- a count is 0 where it is not over 0
+zero-isnt : (k : ℕ) → (k == 0) ≡ isnt (0 <? k)
+unfolding isnt
+zero-isnt zero = ==-true 0 0 refl ∙ sym (ap not (<?-false 0 0 (omega arith)))
+zero-isnt (suc k) = ==-false (suc k) 0 (λ e. omega arith) ∙ sym (ap not (<?-true 0 (suc k) (omega arith)))
+
+-- the words of a matrix say which of its fragments agree
+pub words-agree : (g : Grid) (words : List ℕ) (p q : ℕ) → Masks g words → p < g .m → q < g .m → wordsAgree words p q ≡ agree g p q
+unfolding wordsAgree agree
+words-agree g words p q masks hp hq = ap (λ (k : ℕ). k == 0) (all-conflicts g p q masks hp hq) ∙ zero-isnt _ ∙ ap isnt (conflict-counted g p q)
+
+pub words-join : (g : Grid) (words : List ℕ) (order : ℕ → ℕ) (s i : ℕ) → Masks g words → ((j : ℕ) → j < g .m → order j < g .m) → s ≤ i → i < g .m → wordsJoin words order s i ≡ mayJoin g order s i
+unfolding wordsJoin mayJoin
+words-join g words order zero i masks below le h = refl
+words-join g words order (suc j) i masks below le h = words-agree g words (order j) (order i) masks (below j (omega arith)) (below i h)

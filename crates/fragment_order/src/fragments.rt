@@ -1,5 +1,7 @@
 // What the programme asks of the fragments of a cell matrix, 128 cells to a fragment: starts, reaches and agreement (paper 001, section 5.2).
-use conflicts::fragments_conflict;
+use masks::Places;
+use masks::conflict_count;
+use masks::line_at;
 use writing::calls_end;
 use writing::calls_start;
 ghost use mathlib.Core.Path.{_≡_};
@@ -7,8 +9,7 @@ ghost use Prim.Native.Nat.{ℕ, _+_, _<_, _≤_};
 ghost use lib.ListN.{length};
 ghost use Rattle.below.specs.Below.{bit, nth};
 ghost use Rattle.matrix.specs.Algorithm.Matrix.{matrixGrid, Matrix};
-ghost use Rattle.conflicts.specs.Grid.{conflict};
-ghost use Rattle.fragment_order.specs.Algorithm.Fragments.{start, reach, Begins, Positions, stateReach, mayJoin};
+ghost use Rattle.fragment_order.specs.Algorithm.Fragments.{start, reach, Begins, Positions, stateReach, wordsAgree, wordsJoin};
 
 // A number of a byte.
 pub(crate) fn wide(x: u8) -> usize
@@ -74,46 +75,39 @@ pub fn fill_reaches(m: usize, n: usize, cells: &[u8], order: &[u8], reaches: &mu
     }
 }
 
-// Whether the fragments at positions p and q conflict.
-fn positions_conflict(n: usize, cells: &[u8], p: usize, q: usize) -> bool
-    requires { ⌜ (length (now cells) ≡ 16384) × (n ≤ 128) × (p < 128) × (q < 128) ⌝ }
-    ensures { λ r. ⌜ ((m : ℕ) → r ≡ conflict (matrixGrid m n (now (cells .entry))) p q) ⌝ }
+// Whether the fragments at positions p and q agree: there is no column on which they conflict.
+fn positions_agree(masks: &[u64], p: usize, q: usize) -> bool
+    requires { ⌜ (length (now masks) ≡ 512) × (p < 128) × (q < 128) ⌝ }
+    ensures { λ r. ⌜ r ≡ wordsAgree (now (masks .entry)) p q ⌝ }
 {
-    let all = [1u8; 128];
-    let first = p * 128;
-    let second = q * 128;
-    fragments_conflict(
-        &cells[first..first + n],
-        &cells[second..second + n],
-        &all[0..n],
-    )
+    conflict_count(line_at(masks, p), line_at(masks, q), Places::all()) == 0
 }
 
 // 1 where the fragment at place i agrees with a side's state, and 0 where not.
-fn may_join(m: usize, n: usize, cells: &[u8], order: &[u8], s: usize, i: usize) -> u8
-    requires { ⌜ Matrix m n (now cells) × Positions m (now order) × (s ≤ i) × (i < m) ⌝ }
-    ensures { λ r. ⌜ r ≡ bit (mayJoin (matrixGrid m n (now (cells .entry))) (nth (now (order .entry))) s i) ⌝ }
+fn may_join(m: usize, masks: &[u64], order: &[u8], s: usize, i: usize) -> u8
+    requires { ⌜ (m ≤ 128) × (length (now masks) ≡ 512) × Positions m (now order) × (s ≤ i) × (i < m) ⌝ }
+    ensures { λ r. ⌜ r ≡ bit (wordsJoin (now (masks .entry)) (nth (now (order .entry))) s i) ⌝ }
 {
     if s == 0 {
         return 1;
     }
     let kept = wide(order[s - 1]);
     let next = wide(order[i]);
-    if positions_conflict(n, cells, kept, next) {
-        return 0;
+    if positions_agree(masks, kept, next) {
+        return 1;
     }
-    1
+    0
 }
 
-// The states that the fragment at place i agrees with.
-pub fn fill_agreements(m: usize, n: usize, cells: &[u8], order: &[u8], i: usize, agrees: &mut [u8])
-    requires { ⌜ Matrix m n (now cells) × Positions m (now order) × (i < m) × (length (now agrees) ≡ 129) ⌝ }
-    ensures { λ _. ⌜ Begins (λ s. bit (mayJoin (matrixGrid m n (now (cells .entry))) (nth (now (order .entry))) s i)) (i + 1) (now (agrees .exit)) ⌝ }
+// The states that the fragment at place i agrees with, by the masks of the fragments.
+pub fn fill_agreements(m: usize, masks: &[u64], order: &[u8], i: usize, agrees: &mut [u8])
+    requires { ⌜ (m ≤ 128) × (length (now masks) ≡ 512) × Positions m (now order) × (i < m) × (length (now agrees) ≡ 129) ⌝ }
+    ensures { λ _. ⌜ Begins (λ s. bit (wordsJoin (now (masks .entry)) (nth (now (order .entry))) s i)) (i + 1) (now (agrees .exit)) ⌝ }
 {
     let states = i + 1;
     let mut s = 0;
     while s < states {
-        agrees[s] = may_join(m, n, cells, order, s, i);
+        agrees[s] = may_join(m, masks, order, s, i);
         s += 1;
     }
 }

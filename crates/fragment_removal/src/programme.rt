@@ -137,6 +137,7 @@ fn extend(
     m: usize,
     n: usize,
     cells: &[u8],
+    masks: &[u64],
     order: &[u8],
     reaches: &[u8],
     counts: &mut [u16],
@@ -144,13 +145,13 @@ fn extend(
     lows: &mut [u64],
     k: usize,
 )
-    requires { ⌜ Prepared m n (now cells) (now order) (now reaches) × (k < m) × PairPlaces (now counts) (now highs) (now lows)
+    requires { ⌜ Prepared m n (now cells) (now masks) (now order) (now reaches) × (k < m) × PairPlaces (now counts) (now highs) (now lows)
         × HoldsFragments (matrixGrid m n (now cells)) (nth (now order)) k (pairs (now counts) (now highs) (now lows)) ⌝ }
     ensures { λ _. ⌜ HoldsFragments (matrixGrid m n (now (cells .entry))) (nth (now (order .entry))) (k + 1) (pairs (now (counts .exit)) (now (highs .exit)) (now (lows .exit))) ⌝ }
 {
     let i = m - 1 - k;
     let mut agrees = [0u8; 129];
-    fill_agreements(m, n, cells, order, i, &mut agrees);
+    fill_agreements(m, masks, order, i, &mut agrees);
     let p = wide(order[i]);
     let out = Rank::single(1, p);
     layer(counts, highs, lows, &agrees, reaches, out, i);
@@ -161,19 +162,20 @@ fn suffixes(
     m: usize,
     n: usize,
     cells: &[u8],
+    masks: &[u64],
     order: &[u8],
     reaches: &[u8],
     counts: &mut [u16],
     highs: &mut [u64],
     lows: &mut [u64],
 )
-    requires { ⌜ Prepared m n (now cells) (now order) (now reaches) × PairPlaces (now counts) (now highs) (now lows)
+    requires { ⌜ Prepared m n (now cells) (now masks) (now order) (now reaches) × PairPlaces (now counts) (now highs) (now lows)
         × HoldsFragments (matrixGrid m n (now cells)) (nth (now order)) 0 (pairs (now counts) (now highs) (now lows)) ⌝ }
     ensures { λ _. ⌜ HoldsFragments (matrixGrid m n (now (cells .entry))) (nth (now (order .entry))) m (pairs (now (counts .exit)) (now (highs .exit)) (now (lows .exit))) ⌝ }
 {
     let mut k = 0;
     while k < m {
-        extend(m, n, cells, order, reaches, counts, highs, lows, k);
+        extend(m, n, cells, masks, order, reaches, counts, highs, lows, k);
         k += 1;
     }
 }
@@ -195,19 +197,30 @@ pub(crate) fn least(
     m: usize,
     n: usize,
     cells: &[u8],
+    masks: &[u64],
     order: &[u8],
     reaches: &[u8],
     work: &mut [u16],
     keep: &mut [u8],
 ) -> usize
-    requires { ⌜ Prepared m n (now cells) (now order) (now reaches) × Gapless (matrixGrid m n (now cells)) × (16641 ≤ length (now work)) × (length (now keep) ≡ m) ⌝ }
+    requires { ⌜ Prepared m n (now cells) (now masks) (now order) (now reaches) × Gapless (matrixGrid m n (now cells)) × (16641 ≤ length (now work)) × (length (now keep) ≡ m) ⌝ }
     ensures { λ r. ⌜ (now (keep .exit) ≡ fragmentKeepMarks (matrixGrid m n (now (cells .entry)))) × (r ≡ zeros (fragmentKeepMarks (matrixGrid m n (now (cells .entry)))))
         × (now (work .exit) ≡ replicate (length (now (work .entry))) 0) ⌝ }
 {
     let mut highs = [0u64; 16641];
     let mut lows = [0u64; 16641];
     table::clear(work);
-    suffixes(m, n, cells, order, reaches, work, &mut highs, &mut lows);
+    suffixes(
+        m,
+        n,
+        cells,
+        masks,
+        order,
+        reaches,
+        work,
+        &mut highs,
+        &mut lows,
+    );
     let r = table::get(work, &highs, &lows, 0);
     decode(r, m, keep);
     table::clear(work); // it is handed back all zero

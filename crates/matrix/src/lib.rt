@@ -1,4 +1,4 @@
-// The cell matrix that check, S, F and C work on.
+// The cell matrix that the services work on.
 mod cells;
 mod room;
 

@@ -1,3 +1,2 @@
-pub mod Related
 pub mod Sides
 pub mod Answer

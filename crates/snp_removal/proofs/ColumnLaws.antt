@@ -17,7 +17,7 @@ use Rattle.matrix.specs.Algorithm.Matrix.{Gapless}
 
 -- ---- letters
 
-call-cases : (x : ℕ) → T (isCall x) → (x ≡ 1) ⊎ (x ≡ 2)
+pub call-cases : (x : ℕ) → T (isCall x) → (x ≡ 1) ⊎ (x ≡ 2)
 unfolding isCall
 call-cases x t = go (or-cases _ _ t)
   where

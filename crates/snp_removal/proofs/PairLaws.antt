@@ -1,95 +1,97 @@
--- The kinds of fragments at two columns, one fragment at a time, say whether the columns are in conflict.
+-- The words of two columns say whether the columns are in conflict.
 -- Assumes nothing.
 use mathlib.Core.Path.{_≡_, refl, sym, ap, ap₂, _∙_}
-use mathlib.Core.Bool.{Bool, true, false, not}
-use Prim.Native.Nat.{ℕ, zero, suc, _+_, _-_, _≤_}
-use native.Mathlib.Numerals.{add-one}
+use mathlib.Core.Bool.{Bool, true, not}
+use mathlib.Core.List.{List}
+use mathlib.Core.Logic.{_⊎_, inl, inr}
+use Prim.Native.Nat.{ℕ, zero, suc, _-_, _≤_, _<_}
 use native.Mathlib.Omega.{arith}
 use lib.Dec.{T}
-use Rattle.below.specs.Below.{_and_, _or_, isnt, anyBelow}
+use Rattle.below.specs.Below.{_==_, _and_, _or_, isnt}
 use Rattle.records.specs.Record.{isCall}
-use Rattle.below.proofs.BelowLaws.{both, left-of, right-of, anyBelow-at, anyBelow-of}
-use Rattle.below.proofs.SearchLaws.{true-T, T-true, ==-true, ==-false}
-use Rattle.conflicts.specs.Grid.{Grid}
-use Rattle.snp_removal.specs.declared.columns.Pairs.{Pairs}
-use Rattle.snp_removal.specs.Algorithm.Columns.{callsBoth, columnsConflict, mayFollow}
-use Rattle.snp_removal.specs.Algorithm.Pairs.{withCalls, bothKinds, pairsOf}
-use Rattle.snp_removal.proofs.ColumnLaws.{sameLetter, otherLetter, conflict-kinds}
+use Rattle.below.proofs.BelowLaws.{both, left-of, right-of, or-left, or-right, or-cases, same-test, ==-eq, ==-refl, eq-==, isnt-==, ne-isnt, any-ext}
+use Rattle.conflicts.specs.Grid.{Grid, callsConflict}
+use Rattle.masks.specs.Algorithm.Places.{occupied, conflictPlaces, agreePlaces}
+use Rattle.masks.specs.Algorithm.Masks.{lineAt, transposed, Masks}
+use Rattle.masks.proofs.PlaceLaws.{occupied-below}
+use Rattle.masks.proofs.LineLaws.{codesAgree, line-is, lines-agree, lines-conflict}
+use Rattle.snp_removal.specs.Algorithm.Columns.{callsBoth, columnsConflict, mayFollow, wordsFollow}
+use Rattle.snp_removal.proofs.ColumnLaws.{call-cases, sameLetter, otherLetter, conflict-kinds}
 
--- ---- one fragment more
+-- ---- two calls
 
-or-true : (b : Bool) → (b or true) ≡ true
-unfolding _or_
-or-true true = refl
-or-true false = refl
+A-call : T (isCall 1)
+unfolding isCall _==_ _or_
+A-call = tt
 
-or-false : (b : Bool) → (b or false) ≡ b
-unfolding _or_
-or-false true = refl
-or-false false = refl
+B-call : T (isCall 2)
+unfolding isCall _==_ _or_
+B-call = tt
 
-module _ (p : Pairs) (x y : ℕ) where
-  pub one-letter : isCall x ≡ true → isCall y ≡ true → x ≡ y → record { alike = true; unlike = p .unlike } ≡ withCalls p x y
-  unfolding withCalls _and_ isnt
-  one-letter a b e = rw (a, b, ==-true x y e, or-true (p .alike), or-false (p .unlike))
-
-  pub two-letters : isCall x ≡ true → isCall y ≡ true → (x ≡ y → ⊥) → record { alike = p .alike; unlike = true } ≡ withCalls p x y
-  unfolding withCalls _and_ isnt
-  two-letters a b ne = rw (a, b, ==-false x y ne, or-true (p .unlike), or-false (p .alike))
-
-  -- a cell that is no call leaves the kinds
-  pub no-call : (isCall x and isCall y) ≡ false → p ≡ withCalls p x y
-  unfolding withCalls _and_
-  no-call e = rw (e, or-false (p .alike), or-false (p .unlike))
-
-pub first-hole : (a b : Bool) → a ≡ false → (a and b) ≡ false
-unfolding _and_
-first-hole a b e = rw e
-
-pub second-hole : (a b : Bool) → b ≡ false → (a and b) ≡ false
-unfolding _and_
-second-hole true b e = e
-second-hole false b e = refl
-
--- ---- all fragments
-
-module _ (g : Grid) (a c : ℕ) where
-  alike-is : (k : ℕ) → pairsOf g a c k .alike ≡ anyBelow k (sameLetter g a c)
-  unfolding pairsOf withCalls anyBelow sameLetter callsBoth
-  alike-is zero = refl
-  alike-is (suc k) = ap₂ _or_ (alike-is k) refl
-
-  unlike-is : (k : ℕ) → pairsOf g a c k .unlike ≡ anyBelow k (otherLetter g a c)
-  unfolding pairsOf withCalls anyBelow otherLetter callsBoth
-  unlike-is zero = refl
-  unlike-is (suc k) = ap₂ _or_ (unlike-is k) refl
-
-  pub pairs-next : (f : ℕ) {p r : Pairs} {x y : ℕ} → p ≡ pairsOf g a c f → x ≡ g .cell f a → y ≡ g .cell f c → r ≡ withCalls p x y → r ≡ pairsOf g a c (f + 1)
-  unfolding pairsOf
-  pairs-next f ep ex ey er = er ∙ rw (ep, ex, ey, add-one)
-
-  -- all fragments: both kinds occur exactly if the columns are in conflict
-  pub pairs-conflict : bothKinds (pairsOf g a c (g .m)) ≡ columnsConflict g a c
-  unfolding bothKinds
-  pairs-conflict = ap₂ _and_ (alike-is (g .m)) (unlike-is (g .m)) ∙ sym (conflict-kinds g a c)
-
-  -- the first fragments may show it already
-  pub pairs-enough : (k : ℕ) → k ≤ g .m → bothKinds (pairsOf g a c k) ≡ true → columnsConflict g a c ≡ true
-  unfolding bothKinds
-  pairs-enough k h e =
-      let t = true-T (sym (ap₂ _and_ (alike-is k) (unlike-is k)) ∙ e) in
-      conflict-kinds g a c ∙ T-true _ (both _ _ (more (sameLetter g a c) (left-of _ _ t)) (more (otherLetter g a c) (right-of _ _ t)))
+-- one letter, and two
+module _ (x y : ℕ) where
+  one-letter : codesAgree x y ≡ (isCall x and isCall y and x == y)
+  one-letter = same-test _ _ there (λ t. back (call-cases x (left-of _ _ (left-of _ _ t))) (==-eq x y (right-of _ _ t)))
     where
-      more : (p : ℕ → Bool) → T (anyBelow k p) → T (anyBelow (g .m) p)
-      more p t = let r = anyBelow-at k p t in let l = r .1 in anyBelow-of (g .m) p (r .0) (omega arith) (r .2)
+      there : T (x == 1 and y == 1 or x == 2 and y == 2) → T (isCall x and isCall y and x == y)
+      there t = elim (or-cases _ _ t) [
+        | inl s ↦ rw (==-eq x 1 (left-of _ _ s), ==-eq y 1 (right-of _ _ s)) (both _ _ (both _ _ A-call A-call) (==-refl 1))
+        | inr s ↦ rw (==-eq x 2 (left-of _ _ s), ==-eq y 2 (right-of _ _ s)) (both _ _ (both _ _ B-call B-call) (==-refl 2))
+      ]
+
+      back : (x ≡ 1) ⊎ (x ≡ 2) → x ≡ y → T (x == 1 and y == 1 or x == 2 and y == 2)
+      back (inl e) f = or-left _ _ (both _ _ (eq-== x 1 e) (eq-== y 1 (sym f ∙ e)))
+      back (inr e) f = or-right _ _ (both _ _ (eq-== x 2 e) (eq-== y 2 (sym f ∙ e)))
+
+  two-letters : callsConflict x y ≡ (isCall x and isCall y and isnt (x == y))
+  unfolding callsConflict
+  two-letters =
+      same-test _ _ there
+      (λ t. back (call-cases x (left-of _ _ (left-of _ _ t))) (call-cases y (right-of _ _ (left-of _ _ t))) (isnt-== x y (right-of _ _ t)))
+    where
+      there : T (x == 1 and y == 2 or x == 2 and y == 1) → T (isCall x and isCall y and isnt (x == y))
+      there t = elim (or-cases _ _ t) [
+        | inl s ↦ rw (==-eq x 1 (left-of _ _ s), ==-eq y 2 (right-of _ _ s)) (both _ _ (both _ _ A-call B-call) (ne-isnt 1 2 (λ e. omega arith)))
+        | inr s ↦ rw (==-eq x 2 (left-of _ _ s), ==-eq y 1 (right-of _ _ s)) (both _ _ (both _ _ B-call A-call) (ne-isnt 2 1 (λ e. omega arith)))
+      ]
+
+      back : (x ≡ 1) ⊎ (x ≡ 2) → (y ≡ 1) ⊎ (y ≡ 2) → (x ≡ y → ⊥) → T (x == 1 and y == 2 or x == 2 and y == 1)
+      back (inl e) (inl f) ne = absurd (ne (e ∙ sym f))
+      back (inl e) (inr f) ne = or-left _ _ (both _ _ (eq-== x 1 e) (eq-== y 2 f))
+      back (inr e) (inl f) ne = or-right _ _ (both _ _ (eq-== x 2 e) (eq-== y 1 f))
+      back (inr e) (inr f) ne = absurd (ne (e ∙ sym f))
+
+-- ---- two columns
+
+module _ (g : Grid) (words : List ℕ) (a c : ℕ) (masks : Masks (transposed g) words) (ha : a < g .n) (hc : c < g .n) where
+  -- they have both kinds of fragments exactly if they are in conflict
+  words-conflict : (occupied (agreePlaces (lineAt words a) (lineAt words c)) and occupied (conflictPlaces (lineAt words a) (lineAt words c))) ≡ columnsConflict g a c
+  unfolding transposed sameLetter otherLetter callsBoth
+  words-conflict =
+      let t = transposed g in
+      let la = line-is t a masks ha in
+      let lc = line-is t c masks hc in
+      ap₂ _and_
+      (ap occupied (ap₂ agreePlaces la lc ∙ lines-agree t a c ha hc) ∙ occupied-below (g .m) _ (masks .narrow) ∙ any-ext (g .m) _ _ (λ f l. one-letter (g .cell f a) (g .cell f c)))
+      (ap occupied (ap₂ conflictPlaces la lc ∙ lines-conflict t a c ha hc) ∙ occupied-below (g .m) _ (masks .narrow) ∙ any-ext (g .m) _ _ (λ f l. two-letters (g .cell f a) (g .cell f c)))
+      ∙ sym (conflict-kinds g a c)
 
 -- ---- states
 
-pub follows-none : (g : Grid) (j c : ℕ) → j ≡ 0 → true ≡ mayFollow g j c
-unfolding mayFollow
-follows-none g j c e = rw e
+pub words-follow : (g : Grid) (words : List ℕ) (j c : ℕ) → Masks (transposed g) words → j ≤ c → c < g .n → wordsFollow words j c ≡ mayFollow g j c
+unfolding wordsFollow mayFollow
+words-follow g words zero c masks le h = refl
+words-follow g words (suc a) c masks le h = ap isnt (words-conflict g words a c masks (omega arith) h)
 
-pub follows-last : (g : Grid) (j c : ℕ) (b : Bool) → (j ≡ 0 → ⊥) → b ≡ columnsConflict g (j - 1) c → not b ≡ mayFollow g j c
-unfolding mayFollow isnt
-follows-last g zero c b ne e = absurd (ne refl)
-follows-last g (suc j) c b ne e = ap not (e ∙ ap (λ (a : ℕ). columnsConflict g a c) (let q : suc j - 1 ≡ j = omega arith in q))
+pub follows-none : (words : List ℕ) (j c : ℕ) → j ≡ 0 → true ≡ wordsFollow words j c
+unfolding wordsFollow
+follows-none words j c e = rw e
+
+pub follows-last : (words : List ℕ) (j c : ℕ) (b : Bool) → (j ≡ 0 → ⊥)
+    → b ≡ (occupied (agreePlaces (lineAt words (j - 1)) (lineAt words c)) and occupied (conflictPlaces (lineAt words (j - 1)) (lineAt words c))) → not b ≡ wordsFollow words j c
+unfolding wordsFollow isnt
+follows-last words zero c b ne e = absurd (ne refl)
+follows-last words (suc j) c b ne e = ap not (e ∙ ap split (let q : suc j - 1 ≡ j = omega arith in q))
+  where
+    split : ℕ → Bool
+    split a = occupied (agreePlaces (lineAt words a) (lineAt words c)) and occupied (conflictPlaces (lineAt words a) (lineAt words c))

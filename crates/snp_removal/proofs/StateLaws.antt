@@ -1,24 +1,25 @@
 -- The table of the programme, one column more: its room, and what it holds.
 -- Assumes nothing.
-use mathlib.Core.Path.{_≡_, refl, sym, ap, subst, _∙_}
+use mathlib.Core.Path.{_≡_, sym, ap, subst, _∙_}
 use mathlib.Core.Bool.{Bool, true, false}
 use mathlib.Core.List.{List}
-use Prim.Native.Nat.{ℕ, zero, suc, _+_, _^_, _-_, _≤_, _<_, min, zero-le}
+use Prim.Native.Nat.{ℕ, suc, _+_, _^_, _-_, _≤_, _<_, min, zero-le}
 use native.Mathlib.Nat.{two-pow-succ}
 use native.Mathlib.Numerals.{add-one}
 use native.Mathlib.Omega.{arith}
 use lib.Pow.{pow-mono, pow-pos}
 use Rattle.below.specs.Below.{if_then_else_}
 use Rattle.conflicts.specs.Grid.{Grid, mixed}
-use Rattle.matrix.specs.Algorithm.Matrix.{matrixGrid}
+use Rattle.masks.specs.Algorithm.Masks.{transposed, Masks}
 use Rattle.ranks.specs.declared.rank.Rank.{Rank}
 use Rattle.ranks.specs.Algorithm.Weight.{top, place, AtMost, removal}
 use Rattle.ranks.specs.Algorithm.Reading.{code, value, SumFits}
 use Rattle.ranks.specs.Algorithm.Tables.{Sweep}
 use Rattle.ranks.proofs.WeightLaws.{atMost-more}
-use Rattle.ranks.proofs.TableLaws.{parts-small}
-use Rattle.snp_removal.specs.Algorithm.Columns.{callsBoth, columnsConflict, mayFollow}
-use Rattle.snp_removal.specs.Algorithm.Programme.{chooseColumn, leastColumnWeight, ifMixed, ColumnRoom, HoldsColumns}
+use Rattle.ranks.proofs.TableLaws.{parts-small, sweep-as}
+use Rattle.snp_removal.specs.Algorithm.Columns.{mayFollow, wordsFollow}
+use Rattle.snp_removal.specs.Algorithm.Programme.{chooseColumn, leastColumnWeight, ifFollows, ColumnRoom, HoldsColumns}
+use Rattle.snp_removal.proofs.PairLaws.{words-follow}
 use Rattle.snp_removal.proofs.ProgrammeLaws.{one, choose-small, programme-small}
 
 -- ---- room
@@ -50,12 +51,12 @@ sum-fits i a b h ah al bh bl ea eb m =
     total x y p t pos le hx hy = omega arith
 
 -- the weight that the column makes has a count of 16 bits
-pub count-fits : (g : Grid) (i j : ℕ) (v : ℕ → ℕ) (r : Rank) → i < 128 → r .high < 2 ^ 64 → r .low < 2 ^ 64 → value r ≡ ifMixed g i v j
+pub count-fits : (may : Bool) (i j : ℕ) (v : ℕ → ℕ) (r : Rank) → i < 128 → r .high < 2 ^ 64 → r .low < 2 ^ 64 → value r ≡ ifFollows may i v j
     → AtMost 127 (place i - 1) (v j) → AtMost 127 (place i - 1) (v (i + 1)) → r .count < 65536
-count-fits g i j v r h hh hl e a b =
+count-fits may i j v r h hh hl e a b =
     let p = pow-pos (127 - i) in
     let t = double-top i h in
-    let x = parts-small r hh hl e (choose-small true (mayFollow g j i) p a b) (below (place i) top p t) in
+    let x = parts-small r hh hl e (choose-small true may p a b) (below (place i) top p t) in
     short (x .0)
   where
     below : (p t : ℕ) → 0 < p → p + p ≤ t → p + p - 1 < t
@@ -65,9 +66,9 @@ count-fits g i j v r h hh hl e a b =
     short l = omega arith
 
 -- the lesser of removed and kept, where it may be kept
-pub mixed-weight : (g : Grid) (i j : ℕ) (v : ℕ → ℕ) (may : Bool) {x gone here out kept : ℕ} → may ≡ mayFollow g j i → here ≡ v j → out ≡ removal i → kept ≡ v (i + 1)
-    → gone ≡ out + here → x ≡ (if may then min gone kept else gone) → x ≡ ifMixed g i v j
-mixed-weight g i j v may em eh eo ek eg ex = ex ∙ rw (em, eg, eo, eh, ek)
+pub mixed-weight : (i j : ℕ) (v : ℕ → ℕ) (may may′ : Bool) {x gone here out kept : ℕ} → may ≡ may′ → here ≡ v j → out ≡ removal i → kept ≡ v (i + 1)
+    → gone ≡ out + here → x ≡ (if may then min gone kept else gone) → x ≡ ifFollows may′ i v j
+mixed-weight i j v may may′ em eh eo ek eg ex = ex ∙ rw (em, eg, eo, eh, ek)
 
 -- ---- what the table holds
 
@@ -88,7 +89,7 @@ module _ (g : Grid) where
     opened j = let at : i ≡ g .n - suc k = omega arith in rw at
 
     -- a mixed column, and one that is not
-    pub holds-mixed : (w : ℕ → ℕ) → mixed g i ≡ true → Sweep (ifMixed g i v) v w 0 (i + 1) → HoldsColumns g (k + 1) w
+    pub holds-mixed : (w : ℕ → ℕ) → mixed g i ≡ true → Sweep (λ j. ifFollows (mayFollow g j i) i v j) v w 0 (i + 1) → HoldsColumns g (k + 1) w
     holds-mixed w m s = record {
       holds = λ j le.
           let here : v j ≡ leastColumnWeight g k j = held .holds j (omega arith) in
@@ -100,14 +101,10 @@ module _ (g : Grid) where
     holds-plain m = record { holds = λ j le. held .holds j (omega arith) ∙ rw (add-one k, opened j, m) }
 
 -- what the column makes of the table as it is now, at the next state, is what it makes of the table as it was
-pub turn : (g : Grid) (i j : ℕ) {f old now : ℕ → ℕ} → Sweep f old now 0 j → j ≤ i → ifMixed g i now j ≡ ifMixed g i old j
-turn g i j s le = rw (s .rest j (λ lo hi. omega arith), s .rest (i + 1) (λ lo hi. omega arith))
+pub turn : (may : Bool) (i j : ℕ) {f old now : ℕ → ℕ} → Sweep f old now 0 j → j ≤ i → ifFollows may i now j ≡ ifFollows may i old j
+turn may i j s le = rw (s .rest j (λ lo hi. omega arith), s .rest (i + 1) (λ lo hi. omega arith))
 
--- whether a column may follow does not hang on how many columns there are
-pub mixed-any : (m n n′ : ℕ) (cells : List ℕ) (i : ℕ) (v : ℕ → ℕ) (j : ℕ) → ifMixed (matrixGrid m n cells) i v j ≡ ifMixed (matrixGrid m n′ cells) i v j
-unfolding mayFollow columnsConflict callsBoth matrixGrid
-mixed-any m n n′ cells i v j = ap (λ (b : Bool). chooseColumn true b (removal i) (v (i + 1)) (v j)) (follows j)
-  where
-    follows : (j : ℕ) → mayFollow (matrixGrid m n cells) j i ≡ mayFollow (matrixGrid m n′ cells) j i
-    follows zero = refl
-    follows (suc a) = refl
+-- the words of the columns tell what the column makes of the table
+pub by-words : (g : Grid) (words : List ℕ) (i : ℕ) {v now : ℕ → ℕ} → Masks (transposed g) words → i < g .n
+    → Sweep (λ j. ifFollows (wordsFollow words j i) i v j) v now 0 (i + 1) → Sweep (λ j. ifFollows (mayFollow g j i) i v j) v now 0 (i + 1)
+by-words g words i {v} masks l = sweep-as (λ j h. ap (λ (may : Bool). ifFollows may i v j) (words-follow g words j i masks (omega arith) l))

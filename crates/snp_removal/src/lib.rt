@@ -1,4 +1,6 @@
 // The least SNP removal of a gapless table, over its cell matrix.
+use masks::fill_columns;
+use masks::mask_room;
 use ranks::table;
 ghost use mathlib.Core.Path.{_≡_};
 ghost use lib.ListN.{length};
@@ -17,7 +19,9 @@ pub fn snp_keep_marks(m: usize, n: usize, cells: &[u8], keep: &mut [u8]) -> usiz
     let mut counts = [0u16; 129];
     let mut highs = [0u64; 129];
     let mut lows = [0u64; 129];
-    programme::suffixes(m, n, cells, &mut counts, &mut highs, &mut lows);
+    let mut masks = mask_room();
+    fill_columns(m, n, cells, &mut masks);
+    programme::suffixes(m, n, cells, &masks, &mut counts, &mut highs, &mut lows);
     let r = table::get(&counts, &highs, &lows, 0);
     programme::decode(r, n, keep);
     r.count as usize

@@ -3,19 +3,20 @@ use crate::columns;
 use ranks::rank::Rank;
 use ranks::table;
 ghost use mathlib.Core.Path.{_≡_};
-ghost use Prim.Native.Nat.{ℕ, _+_, _-_, _<_, _≤_};
+ghost use Prim.Native.Nat.{_+_, _-_, _<_, _≤_};
 ghost use lib.ListN.{length};
 ghost use Rattle.below.specs.Below.{tab};
 ghost use Rattle.matrix.specs.Algorithm.Matrix.{matrixGrid};
+ghost use Rattle.masks.specs.Algorithm.Masks.{transposed, Masks};
 ghost use Rattle.ranks.specs.Algorithm.Weight.{place, digitAt, AtMost, removal};
 ghost use Rattle.ranks.specs.Algorithm.Reading.{code, value};
 ghost use Rattle.ranks.specs.Algorithm.Tables.{at, Sweep};
-ghost use Rattle.snp_removal.specs.Algorithm.Programme.{ifMixed, States, ColumnRoom, HoldsColumns};
+ghost use Rattle.snp_removal.specs.Algorithm.Columns.{wordsFollow};
+ghost use Rattle.snp_removal.specs.Algorithm.Programme.{ifFollows, States, ColumnRoom, HoldsColumns};
 
 // The least weight at state j with the mixed column i before the columns of the table, which costs `out` if it is removed.
 fn weight_at(
-    m: usize,
-    cells: &[u8],
+    masks: &[u64],
     counts: &[u16],
     highs: &[u64],
     lows: &[u64],
@@ -23,27 +24,27 @@ fn weight_at(
     i: usize,
     j: usize,
 ) -> Rank
-    requires { ⌜ (length (now cells) ≡ 16384) × (m ≤ 128) × (i < 128) × (j ≤ i) × (value out ≡ removal i) × States (now counts) (now highs) (now lows)
+    requires { ⌜ (length (now masks) ≡ 512) × (i < 128) × (j ≤ i) × (value out ≡ removal i) × States (now counts) (now highs) (now lows)
         × AtMost 127 (place i - 1) (at (now counts) (now highs) (now lows) j) × AtMost 127 (place i - 1) (at (now counts) (now highs) (now lows) (i + 1)) ⌝ }
-    ensures { λ r. ⌜ ((n : ℕ) → value r ≡ ifMixed (matrixGrid m n (now (cells .entry))) i (at (now (counts .entry)) (now (highs .entry)) (now (lows .entry))) j) × (r .count < 65536) ⌝ }
+    ensures { λ r. ⌜ (value r ≡ ifFollows (wordsFollow (now (masks .entry)) j i) i (at (now (counts .entry)) (now (highs .entry)) (now (lows .entry))) j) × (r .count < 65536) ⌝ }
 {
     let here = table::get(counts, highs, lows, j);
     let gone = out.plus(here);
     let kept = table::get(counts, highs, lows, i + 1);
-    gone.lesser_if(columns::may_follow(m, cells, j, i), kept)
+    gone.lesser_if(columns::may_follow(masks, j, i), kept)
 }
 
 // The mixed column i, at every state before it.
-fn column(m: usize, cells: &[u8], counts: &mut [u16], highs: &mut [u64], lows: &mut [u64], i: usize)
-    requires { ⌜ (length (now cells) ≡ 16384) × (m ≤ 128) × (i < 128) × States (now counts) (now highs) (now lows) × ColumnRoom i (at (now counts) (now highs) (now lows)) ⌝ }
-    ensures { λ _. ⌜ ((n : ℕ) → Sweep (ifMixed (matrixGrid m n (now (cells .entry))) i (at (now (counts .entry)) (now (highs .entry)) (now (lows .entry))))
-        (at (now (counts .entry)) (now (highs .entry)) (now (lows .entry))) (at (now (counts .exit)) (now (highs .exit)) (now (lows .exit))) 0 (i + 1)) ⌝ }
+fn column(masks: &[u64], counts: &mut [u16], highs: &mut [u64], lows: &mut [u64], i: usize)
+    requires { ⌜ (length (now masks) ≡ 512) × (i < 128) × States (now counts) (now highs) (now lows) × ColumnRoom i (at (now counts) (now highs) (now lows)) ⌝ }
+    ensures { λ _. ⌜ Sweep (λ j. ifFollows (wordsFollow (now (masks .entry)) j i) i (at (now (counts .entry)) (now (highs .entry)) (now (lows .entry))) j)
+        (at (now (counts .entry)) (now (highs .entry)) (now (lows .entry))) (at (now (counts .exit)) (now (highs .exit)) (now (lows .exit))) 0 (i + 1) ⌝ }
 {
     let out = Rank::single(1, i);
     let next = i + 1;
     let mut j = 0;
     while j < next {
-        let r = weight_at(m, cells, counts, highs, lows, out, i, j);
+        let r = weight_at(masks, counts, highs, lows, out, i, j);
         table::put(counts, highs, lows, j, r);
         j += 1;
     }
@@ -54,18 +55,19 @@ fn extend(
     m: usize,
     n: usize,
     cells: &[u8],
+    masks: &[u64],
     counts: &mut [u16],
     highs: &mut [u64],
     lows: &mut [u64],
     k: usize,
 )
-    requires { ⌜ (length (now cells) ≡ 16384) × (m ≤ 128) × (n ≤ 128) × (k < n) × States (now counts) (now highs) (now lows)
-        × HoldsColumns (matrixGrid m n (now cells)) k (at (now counts) (now highs) (now lows)) ⌝ }
+    requires { ⌜ (length (now cells) ≡ 16384) × (m ≤ 128) × (n ≤ 128) × (length (now masks) ≡ 512) × Masks (transposed (matrixGrid m n (now cells))) (now masks) × (k < n)
+        × States (now counts) (now highs) (now lows) × HoldsColumns (matrixGrid m n (now cells)) k (at (now counts) (now highs) (now lows)) ⌝ }
     ensures { λ _. ⌜ HoldsColumns (matrixGrid m n (now (cells .entry))) (k + 1) (at (now (counts .exit)) (now (highs .exit)) (now (lows .exit))) ⌝ }
 {
     let i = n - 1 - k;
     if columns::column_mixed(m, cells, i) {
-        column(m, cells, counts, highs, lows, i);
+        column(masks, counts, highs, lows, i);
     }
 }
 
@@ -74,17 +76,18 @@ pub(crate) fn suffixes(
     m: usize,
     n: usize,
     cells: &[u8],
+    masks: &[u64],
     counts: &mut [u16],
     highs: &mut [u64],
     lows: &mut [u64],
 )
-    requires { ⌜ (length (now cells) ≡ 16384) × (m ≤ 128) × (n ≤ 128) × States (now counts) (now highs) (now lows)
-        × HoldsColumns (matrixGrid m n (now cells)) 0 (at (now counts) (now highs) (now lows)) ⌝ }
+    requires { ⌜ (length (now cells) ≡ 16384) × (m ≤ 128) × (n ≤ 128) × (length (now masks) ≡ 512) × Masks (transposed (matrixGrid m n (now cells))) (now masks)
+        × States (now counts) (now highs) (now lows) × HoldsColumns (matrixGrid m n (now cells)) 0 (at (now counts) (now highs) (now lows)) ⌝ }
     ensures { λ _. ⌜ HoldsColumns (matrixGrid m n (now (cells .entry))) n (at (now (counts .exit)) (now (highs .exit)) (now (lows .exit))) ⌝ }
 {
     let mut k = 0;
     while k < n {
-        extend(m, n, cells, counts, highs, lows, k);
+        extend(m, n, cells, masks, counts, highs, lows, k);
         k += 1;
     }
 }

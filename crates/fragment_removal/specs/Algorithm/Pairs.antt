@@ -6,6 +6,7 @@ use Prim.Native.Nat.{ℕ, _+_, _*_, _-_, _/_, _%_, _≤_, _<_}
 use lib.ListN.{length}
 use Rattle.conflicts.specs.Grid.{Grid}
 use Rattle.matrix.specs.Algorithm.Matrix.{matrixGrid, Matrix}
+use Rattle.masks.specs.Algorithm.Masks.{Masks}
 use Rattle.ranks.specs.declared.rank.Rank.{Rank}
 use Rattle.ranks.specs.Algorithm.Weight.{top, AtMost}
 use Rattle.ranks.specs.Algorithm.Reading.{code}
@@ -28,9 +29,11 @@ pub record PairPlaces (counts highs lows : List ℕ) : Type 0 where
   pub highs-size : 16641 ≤ length highs
   pub lows-size : 16641 ≤ length lows
 
--- what the programme reads: a cell matrix, an order of its fragments by start, and how far each state reaches
-pub record Prepared (m n : ℕ) (cells order reaches : List ℕ) : Type 0 where
+-- what the programme reads: a cell matrix, its masks, an order of its fragments by start, and how far each state reaches
+pub record Prepared (m n : ℕ) (cells words order reaches : List ℕ) : Type 0 where
   pub matrix : Matrix m n cells
+  pub words-size : length words ≡ 512
+  pub masks : Masks (matrixGrid m n cells) words
   pub order-size : length order ≡ 128
   pub reaches-size : length reaches ≡ 129
   pub ordered : Ordered m (start (matrixGrid m n cells)) (nth order)

@@ -8,7 +8,7 @@ use Prim.Native.Nat.{ℕ}
 use Rattle.below.specs.Below.{if_then_else_}
 use Rattle.conflicts.specs.Grid.{Grid}
 use Rattle.conflicts.specs.Sides.{errorFree, firstSides}
-use Rattle.phasing.specs.Algorithm.Related.{related}
+use Rattle.masks.specs.Algorithm.Pairs.{related}
 use Rattle.components.specs.Algorithm.Components.{lowests}
 
 -- the verdict is "error-free"; on a yes the "first lawful side list", on a no all 0; and for each kept fragment the lowest that a chain of conflicts joins to it, 255 for a removed one

@@ -2,9 +2,12 @@
 -- Assumes nothing.
 use Prim.Native.Nat.{ℕ, zero, suc}
 use mathlib.Core.Bool.{Bool, true}
+use mathlib.Core.List.{List}
 use Rattle.below.specs.Below.{_==_, _and_, _or_, isnt, anyBelow}
 use Rattle.records.specs.Record.{isCall}
 use Rattle.conflicts.specs.Grid.{Grid}
+use Rattle.masks.specs.Algorithm.Places.{occupied, conflictPlaces, agreePlaces}
+use Rattle.masks.specs.Algorithm.Masks.{lineAt}
 
 -- fragment f calls columns a and c
 unfoldable pub callsBoth : Grid → ℕ → ℕ → ℕ → Bool
@@ -23,3 +26,8 @@ columnsConflict g a c =
 unfoldable pub mayFollow : Grid → ℕ → ℕ → Bool
 mayFollow g zero c = true
 mayFollow g (suc a) c = isnt (columnsConflict g a c)
+
+-- the same by the words of the columns' masks: no fragment has one letter at both, or none has two
+unfoldable pub wordsFollow : List ℕ → ℕ → ℕ → Bool
+wordsFollow words zero c = true
+wordsFollow words (suc a) c = isnt (occupied (agreePlaces (lineAt words a) (lineAt words c)) and occupied (conflictPlaces (lineAt words a) (lineAt words c)))

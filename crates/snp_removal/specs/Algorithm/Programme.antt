@@ -21,9 +21,9 @@ leastColumnWeight g (suc k) j =
     let i = g .n - suc k in
     chooseColumn (mixed g i) (mayFollow g j i) (removal i) (leastColumnWeight g k (suc i)) (leastColumnWeight g k j)
 
--- what the mixed column i makes of a table of weights, at state j
-abbrev pub ifMixed : Grid → ℕ → (ℕ → ℕ) → ℕ → ℕ
-ifMixed g i v j = chooseColumn true (mayFollow g j i) (removal i) (v (i + 1)) (v j)
+-- what the mixed column i makes of a table of weights, at state j, which it may follow or not
+abbrev pub ifFollows : Bool → ℕ → (ℕ → ℕ) → ℕ → ℕ
+ifFollows may i v j = chooseColumn true may (removal i) (v (i + 1)) (v j)
 
 -- the tables have a place for each state
 pub record States (counts highs lows : List ℕ) : Type 0 where

@@ -6,33 +6,32 @@ use native.Mathlib.Omega.{arith}
 use lib.ListN.{length}
 use borrow.Author.Needs.{needs}
 use Rattle.below.specs.Below.{bit, nth}
-use Rattle.matrix.specs.Algorithm.Matrix.{matrixGrid}
-use Rattle.fragment_order.specs.Algorithm.Fragments.{Begins, mayJoin}
+use Rattle.fragment_order.specs.Algorithm.Fragments.{Begins, wordsJoin}
 use Rattle.fragment_order.proofs.OrderLaws.{begins-none, begins-more}
 use Rattle.fragment_order.proofs.fragments.fill_agreements.Statement.{statement}
 use Rattle.fragment_order.proofs.fragments.fill_agreements.Tie as tie
 
 abbrev Inv-loop : tie.InvT-loop
-Inv-loop m n cells order i agrees₀ states s₀ agrees s = (s ≤ states) × (length agrees ≡ 129) × Begins (λ q. bit (mayJoin (matrixGrid m n cells) (nth order) q i)) s agrees
+Inv-loop m masks order i agrees₀ states s₀ agrees s = (s ≤ states) × (length agrees ≡ 129) × Begins (λ q. bit (wordsJoin masks (nth order) q i)) s agrees
 
 abbrev μ-loop : tie.MeasureT-loop
-μ-loop m n cells order i agrees₀ states s₀ agrees s = states - s
+μ-loop m masks order i agrees₀ states s₀ agrees s = states - s
 
 loop-holds : tie.Need-loop-holds Inv-loop μ-loop
 loop-holds c = (search needs, search needs, begins-none _ _)
 
 may-join-requires : tie.Need-may-join-requires Inv-loop μ-loop
 may-join-requires c κs =
-    let p = c .before .before .before .before .before .pre in (p .0, p .1, omega arith, p .2)
+    let p = c .before .before .before .before .before .pre in (p .0, p .1, p .2, omega arith, p .3)
 
 slice-write-agrees : tie.Need-slice-write-agrees Inv-loop μ-loop
 slice-write-agrees c =
-    let h = c .before .before .before .before .before .before .pre .0 .rows in omega arith
+    let h = c .before .before .before .before .before .before .pre .0 in omega arith
 
 loop-again : tie.Need-loop-again Inv-loop μ-loop
 loop-again c =
     let l = c .before .before .loop in
-    let h = c .before .before .before .before .before .before .pre .0 .rows in
+    let h = c .before .before .before .before .before .before .pre .0 in
     (search needs, search needs, begins-more _ (l .s) (l .agrees) _ (l .inv .2) (omega arith) (c .may-join .ensures))
 
 returns : tie.Need-returns Inv-loop μ-loop

@@ -1,13 +1,14 @@
 -- `programme::extend` meets its contract. A call's `.ok` says that the fields of the Rank it hands back fit; `.1 .1 .1 .0 .1` is its higher word, `.1 .1 .1 .1 .0 .1` its lower.
 -- Assumes nothing.
-use mathlib.Core.Path.{refl}
+use mathlib.Core.Path.{refl, _∙_}
 use Prim.Native.Nat.{_-_}
 use native.Mathlib.Omega.{arith}
 use borrow.Author.Needs.{needs}
 use Rattle.matrix.specs.Algorithm.Matrix.{matrixGrid}
 use Rattle.ranks.specs.Algorithm.Reading.{value}
 use Rattle.below.specs.Below.{nth}
-use Rattle.fragment_order.specs.Algorithm.Fragments.{mayJoin}
+use Rattle.fragment_order.specs.Algorithm.Fragments.{wordsJoin}
+use Rattle.fragment_order.proofs.ReadLaws.{words-join}
 use Rattle.fragment_removal.specs.Algorithm.Pairs.{pairs}
 use Rattle.fragment_removal.proofs.PairLaws.{removal-of, begins-marks, holds-room, holds-more}
 use Rattle.fragment_removal.proofs.programme.extend.Statement.{statement}
@@ -16,16 +17,16 @@ use Rattle.fragment_removal.proofs.programme.extend.Tie as tie
 fill-agreements-requires : tie.Need-fill-agreements-requires
 unfolding matrixGrid
 fill-agreements-requires c κs =
-    let p = c .before .before .before .before .before .before .before .pre .0 in
-    (p .matrix, record { size = p .order-size; below = p .ordered .below }, omega arith, search needs)
+    let p = c .before .before .before .before .before .before .before .before .pre .0 in
+    (p .matrix .rows, p .words-size, record { size = p .order-size; below = p .ordered .below }, omega arith, search needs)
 
 shared-slice-read-wide : tie.Need-shared-slice-read-wide
-shared-slice-read-wide c = let p = c .before .before .before .before .before .before .before .before .before .before .pre .0 in let z = p .order-size in let h = p .matrix .rows in omega arith
+shared-slice-read-wide c = let p = c .before .before .before .before .before .before .before .before .before .before .before .pre .0 in let z = p .order-size in let h = p .matrix .rows in omega arith
 
 single-requires : tie.Need-single-requires
 unfolding matrixGrid
 single-requires c κs =
-    let s = c .before .before .before .before .before .before .before .before .before .before .before in
+    let s = c .before .before .before .before .before .before .before .before .before .before .before .before in
     let h = s .pre .0 .matrix .rows in
     let b = s .pre .0 .ordered .below (s .args .m - 1 - s .args .k) (omega arith) in
     let e = c .wide .ensures in
@@ -34,7 +35,7 @@ single-requires c κs =
 layer-requires : tie.Need-layer-requires
 unfolding matrixGrid
 layer-requires c κs =
-    let s = c .before .before .before .before .before .before .before .before .before .before .before .before .before .before .before .before in
+    let s = c .before .before .before .before .before .before .before .before .before .before .before .before .before .before .before .before .before in
     let a = s .args in
     let p = s .pre .0 in
     let order = nth (a .order .now) in
@@ -51,7 +52,7 @@ layer-requires c κs =
 returns : tie.Need-returns
 unfolding matrixGrid
 returns c =
-    let s = c .before .before .before .before .before .before .before .before .before .before .before .before .before .before .before .before .before .before .before .before .before .before .before in
+    let s = c .before .before .before .before .before .before .before .before .before .before .before .before .before .before .before .before .before .before .before .before .before .before .before .before in
     let a = s .args in
     let p = s .pre .0 in
     let g = matrixGrid (a .m) (a .n) (a .cells .now) in
@@ -59,7 +60,7 @@ returns c =
     let i = a .m - 1 - a .k in
     let out = c .before .before .before .before .before .before .before .before .before .before .before .single in
     holds-more g order (a .k) i (pairs (a .counts .now) (a .highs .now) (a .lows .now)) (s .pre .1) refl (s .pre .3) _ (nth (a .reaches .now)) (value (out .result)) _
-    (begins-marks (λ q. mayJoin g order q i) _ _ (c .before .before .before .before .before .before .before .before .before .before .before .before .before .before .before .fill-agreements .ensures)) (p .reaching .begins) (removal-of (order i) (out .ensures) (c .before .before .before .before .before .before .before .before .before .before .before .before .wide .ensures)) (c .before .before .before .before .before .before .layer .ensures)
+    (λ q h. begins-marks (λ q. wordsJoin (a .masks .now) order q i) _ _ (c .before .before .before .before .before .before .before .before .before .before .before .before .before .before .before .fill-agreements .ensures) q h ∙ words-join g (a .masks .now) order q i (p .masks) (p .ordered .below) (omega arith) (omega (arith, s .pre .1))) (p .reaching .begins) (removal-of (order i) (out .ensures) (c .before .before .before .before .before .before .before .before .before .before .before .before .wide .ensures)) (c .before .before .before .before .before .before .layer .ensures)
 
 pub extend-spec : {M : Type 1} → statement M
 extend-spec =

@@ -8,9 +8,8 @@ use Rattle.phasing.proofs.answer.fill_fragments.Tie as tie
 returns : tie.Need-returns
 returns c =
     let copy = c .before .before .before .before .before .before .copy in
-    let start = c .before .before .before .before .before .before .before .before .before .before .before .before in
-    let a = start .args in
-    two-fill (a .bytes .now) (copy .ensures) (c .before .before .fill-blocks .ensures) (a .m) (rw (copy .ensures) (start .pre .0 .fragments))
+    let start = c .before .before .before .before .before .before .before .before .before .before .before in
+    λ g cols means e. two-fill (start .args .bytes .now) (copy .ensures) (c .before .before .fill-blocks .ensures g cols means e) (start .args .m) (rw (copy .ensures) (start .pre .2))
 
 pub fill-fragments-spec : {M : Type 1} → statement M
 fill-fragments-spec =

@@ -1,37 +1,36 @@
 -- `programme::extend` meets its contract.
 -- Assumes nothing.
-use mathlib.Core.Path.{refl, sym, _∙_}
 use borrow.Author.Needs.{needs}
+use mathlib.Core.Path.{refl, sym, _∙_}
+use native.Mathlib.Omega.{arith}
 use Rattle.matrix.specs.Algorithm.Matrix.{matrixGrid}
 use Rattle.ranks.specs.Algorithm.Tables.{at}
-use Rattle.snp_removal.proofs.StateLaws.{holds-room, holds-mixed, holds-plain}
+use Rattle.snp_removal.proofs.StateLaws.{holds-room, holds-mixed, holds-plain, by-words}
 use Rattle.snp_removal.proofs.programme.extend.Statement.{statement}
 use Rattle.snp_removal.proofs.programme.extend.Tie as tie
 
 column-requires : tie.Need-column-requires
 unfolding matrixGrid
 column-requires c κs =
-    let s = c .before .before .before .before .before .before .before .before .before in
+    let s = c .before .before .before .before .before .before .before .before .before .before in
     let a = s .args in
-    (s .pre .0, s .pre .1, search needs, s .pre .4, holds-room (matrixGrid (a .m) (a .n) (a .cells .now)) (a .k) _ (at (a .counts .now) (a .highs .now) (a .lows .now)) (s .pre .3) refl (s .pre .5) (s .pre .2))
+    (s .pre .3, search needs, s .pre .6, holds-room (matrixGrid (a .m) (a .n) (a .cells .now)) (a .k) _ (at (a .counts .now) (a .highs .now) (a .lows .now)) (s .pre .5) refl (s .pre .7) (s .pre .2))
 
 returns : tie.Need-returns
 unfolding matrixGrid
 returns c =
-    let column = c .before .before .before .before .before .before .column in
-    let if1 = c .before .before .before .before .before .before .before .before .before .before .if1 in
-    let column-mixed = c .before .before .before .before .before .before .before .before .before .before .before .column-mixed in
-    let s = c .before .before .before .before .before .before .before .before .before .before .before .before .before .before .before .before in
+    let s = c .before .before .before .before .before .before .before .before .before .before .before .before .before .before .before .before .before in
     let a = s .args in
-    holds-mixed (matrixGrid (a .m) (a .n) (a .cells .now)) (a .k) _ (at (a .counts .now) (a .highs .now) (a .lows .now)) (s .pre .3) refl (s .pre .5) _
-    (sym (column-mixed .ensures (a .n)) ∙ if1 .taken) (column .ensures (a .n))
+    let g = matrixGrid (a .m) (a .n) (a .cells .now) in
+    holds-mixed g (a .k) _ (at (a .counts .now) (a .highs .now) (a .lows .now)) (s .pre .5) refl (s .pre .7) _
+    (sym (c .before .before .before .before .before .before .before .before .before .before .before .column-mixed .ensures (a .n)) ∙ c .before .before .before .before .before .before .before .before .before .before .if1 .taken) (by-words g (a .masks .now) _ (s .pre .4) (omega (arith, s .pre .5)) (c .before .before .before .before .before .before .column .ensures))
 
 returns-2 : tie.Need-returns-2
 unfolding matrixGrid
 returns-2 c =
-    let s = c .before .before .before .before .before .before in
+    let s = c .before .before .before .before .before .before .before in
     let a = s .args in
-    holds-plain (matrixGrid (a .m) (a .n) (a .cells .now)) (a .k) _ (at (a .counts .now) (a .highs .now) (a .lows .now)) (s .pre .3) refl (s .pre .5)
+    holds-plain (matrixGrid (a .m) (a .n) (a .cells .now)) (a .k) _ (at (a .counts .now) (a .highs .now) (a .lows .now)) (s .pre .5) refl (s .pre .7)
     (sym (c .before .column-mixed .ensures (a .n)) ∙ c .if1 .left)
 
 pub extend-spec : {M : Type 1} → statement M

@@ -1,0 +1,4 @@
+pub mod WordLaws
+pub mod PlaceLaws
+pub mod LineLaws
+pub mod PairLaws

@@ -1,0 +1,158 @@
+-- The matrix of the numbers of all pairs, by its entries, and what they say of a matrix of cells.
+-- Assumes nothing.
+use mathlib.Core.Path.{_≡_, refl, sym, ap, ap₂, subst, _∙_}
+use mathlib.Core.Bool.{Bool, true, false}
+use mathlib.Core.List.{List}
+use Prim.Native.Nat.{ℕ, _+_, _*_, _/_, _%_, _<_}
+use native.Mathlib.Nat.{pos-of-ne-zero}
+use native.Mathlib.Omega.{arith}
+use lib.Dec.{T}
+use lib.ListN.{length, getD, set}
+use Rattle.below.specs.Below.{bit, if_then_else_, _<?_, _and_, anyBelow, nth}
+use Rattle.below.proofs.BelowLaws.{left-of, length-tab, getD-tab}
+use Rattle.below.proofs.SearchLaws.{<?-true, <?-false, T-true}
+use Rattle.below.proofs.FillLaws.{filled-more, filled-all}
+use Rattle.below.proofs.CountLaws.{bit-pos}
+use Rattle.conflicts.specs.Choice.{marked}
+use Rattle.conflicts.specs.Grid.{Grid, conflictOn, conflictOnKept}
+use Rattle.conflicts.specs.Counts.{conflictCount}
+use Rattle.conflicts.proofs.CountLaws.{kept-counted}
+use Rattle.masks.specs.declared.places.Places.{Places}
+use Rattle.masks.specs.declared.lines.Line.{Line}
+use Rattle.masks.specs.Algorithm.Places.{placesWhere, bothOf, eitherOf, size, occupied, callPlaces, conflictPlaces}
+use Rattle.masks.specs.Algorithm.Masks.{lineOf, lineAt}
+use Rattle.masks.specs.Algorithm.Pairs.{codesRelate, related, relatedNumber, pairNumber, Numbered, pairMatrix, Compared}
+use Rattle.masks.proofs.PlaceLaws.{upTo, both-comm, either-comm, both-below, some-below, size-below, occupied-below}
+use Rattle.masks.proofs.LineLaws.{line-is, lines-conflict, line-calls}
+
+-- ---- keep marks of two fragments
+
+module _ (x y s : ℕ) where
+  pub first-removed : x ≡ 0 → 0 ≡ if 0 <? x and 0 <? y then s else 0
+  unfolding _and_
+  first-removed e = rw (<?-false 0 x (omega arith))
+
+  pub second-removed : y ≡ 0 → 0 ≡ if 0 <? x and 0 <? y then s else 0
+  unfolding _and_
+  second-removed e = rw (<?-false 0 y (omega arith)) (go (0 <? x))
+    where
+      go : (b : Bool) → 0 ≡ if b and false then s else 0
+      go true = refl
+      go false = refl
+
+  pub both-kept : (x ≡ 0 → ⊥) → (y ≡ 0 → ⊥) → s ≡ if 0 <? x and 0 <? y then s else 0
+  unfolding _and_
+  both-kept f g = rw (<?-true 0 x (pos-of-ne-zero f), <?-true 0 y (pos-of-ne-zero g))
+
+-- a number that counts where two are kept
+kept-pos : (b : Bool) (s : ℕ) {t : Bool} → (0 <? s) ≡ t → (0 <? (if b then s else 0)) ≡ (b and t)
+unfolding _and_
+kept-pos true s e = e
+kept-pos false s e = <?-false 0 0 (omega arith)
+
+-- ---- the matrix
+
+-- no place yet
+pub numbered-none : {number : ℕ → ℕ → ℕ} {l : List ℕ} → length l ≡ 16384 → Numbered number 0 l
+numbered-none e = record { long = e; done = λ q h. absurd (omega arith) }
+
+-- one place more
+pub numbered-more : {number : ℕ → ℕ → ℕ} {l : List ℕ} {k : ℕ} (i j v : ℕ) → Numbered number k l → k ≡ i * 128 + j → i < 128 → j < 128 → v ≡ number i j → Numbered number (k + 1) (set l k v)
+numbered-more {number} {l} {k} i j v w e hi hj is =
+    let p : k / 128 ≡ i = omega arith in
+    let q : k % 128 ≡ j = omega arith in
+    let r = filled-more 16384 (λ x. number (x / 128) (x % 128)) k l v (record { within = omega arith; sized = w .long; done = w .done }) (omega arith) (is ∙ sym (ap₂ number p q)) in
+    record { long = r .sized; done = r .done }
+
+-- the same place by another name
+pub numbered-to : {number : ℕ → ℕ → ℕ} {l : List ℕ} {k k′ : ℕ} → k ≡ k′ → Numbered number k l → Numbered number k′ l
+numbered-to {number} {l} e w = subst (λ (k : ℕ). Numbered number k l) e w
+
+-- the number of a pair whose row is done
+pub numbered-at : {number : ℕ → ℕ → ℕ} {l : List ℕ} {k : ℕ} (i j : ℕ) → Numbered number k l → j < 128 → i * 128 + j < k → nth l (i * 128 + j) ≡ number i j
+numbered-at {number} i j w hj h =
+    let p : (i * 128 + j) / 128 ≡ i = omega arith in
+    let q : (i * 128 + j) % 128 ≡ j = omega arith in
+    w .done (i * 128 + j) h ∙ ap₂ number p q
+
+-- the same both ways
+conflict-comm : (x y : Line) → conflictPlaces x y ≡ conflictPlaces y x
+unfolding conflictPlaces
+conflict-comm x y = ap₂ eitherOf (both-comm (x .a) (y .b)) (both-comm (x .b) (y .a)) ∙ either-comm _ _
+
+number-comm : (blocks : Bool) (keep : Places) (x y : Line) → relatedNumber blocks keep x y ≡ relatedNumber blocks keep y x
+unfolding relatedNumber
+number-comm true keep x y = ap (λ (p : Places). bit (occupied (bothOf keep p))) (both-comm _ _)
+number-comm false keep x y = ap (λ (p : Places). size (bothOf keep p)) (conflict-comm x y)
+
+and-comm : (a b : Bool) → (a and b) ≡ (b and a)
+unfolding _and_
+and-comm true true = refl
+and-comm true false = refl
+and-comm false true = refl
+and-comm false false = refl
+
+module _ (blocks : Bool) (words : List ℕ) (keep : Places) (frags : List ℕ) where
+  pub number-back : (i j : ℕ) → pairNumber blocks words keep frags i j ≡ pairNumber blocks words keep frags j i
+  unfolding pairNumber
+  number-back i j = ap₂ (λ (b : Bool) (k : ℕ). if b then k else 0) (and-comm (marked frags i) (marked frags j)) (number-comm blocks keep (lineAt words i) (lineAt words j))
+
+  -- a number over 0 is one of kept fragments
+  pub number-marked : (i j : ℕ) → T (0 <? pairNumber blocks words keep frags i j) → T (marked frags i)
+  unfolding pairNumber
+  number-marked i j t = left-of _ _ (left-of _ _ (subst T (kept-pos (marked frags i and marked frags j) _ refl) t))
+
+  -- the number at place k
+  abbrev entry : ℕ → ℕ
+  entry k = pairNumber blocks words keep frags (k / 128) (k % 128)
+
+  pub matrix-is : {matrix : List ℕ} → Numbered (pairNumber blocks words keep frags) 16384 matrix → matrix ≡ pairMatrix blocks words keep frags
+  unfolding pairMatrix
+  matrix-is {matrix} w = filled-all 16384 entry 16384 matrix (record { within = omega arith; sized = w .long; done = w .done }) (omega arith)
+
+  pub matrix-length : length (pairMatrix blocks words keep frags) ≡ 16384
+  unfolding pairMatrix
+  matrix-length = length-tab 16384 entry
+
+  pub matrix-at : (i j : ℕ) → i < 128 → j < 128 → getD (pairMatrix blocks words keep frags) (i * 128 + j) 0 ≡ pairNumber blocks words keep frags i j
+  unfolding pairMatrix
+  matrix-at i j hi hj =
+      let p : (i * 128 + j) / 128 ≡ i = omega arith in
+      let q : (i * 128 + j) % 128 ≡ j = omega arith in
+      getD-tab 16384 entry (i * 128 + j) 0 (omega arith) ∙ ap₂ (pairNumber blocks words keep frags) p q
+
+-- ---- what the numbers say
+
+module _ {g : Grid} {cols words : List ℕ} {keep : Places} (by : Compared g cols words keep) (frags : List ℕ) (i j : ℕ) (hi : i < g .m) (hj : j < g .m) where
+  lines : {A : Type 0} (f : Line → Line → A) → f (lineAt words i) (lineAt words j) ≡ f (lineOf g i) (lineOf g j)
+  lines f = ap₂ f (line-is g i (by .masks) hi) (line-is g j (by .masks) hj)
+
+  -- the kept columns that pass a test
+  kept-places : (p : ℕ → Bool) → bothOf keep (placesWhere (upTo (g .n) p)) ≡ placesWhere (upTo (g .n) (λ c. marked cols c and p c))
+  kept-places p = ap (λ (k : Places). bothOf k (placesWhere (upTo (g .n) p))) (by .columns) ∙ some-below (g .n) (marked cols) p
+
+  conflict-size : size (bothOf keep (conflictPlaces (lineAt words i) (lineAt words j))) ≡ conflictCount g cols i j
+  unfolding conflictCount conflictOn
+  conflict-size =
+      ap (λ (p : Places). size (bothOf keep p)) (lines conflictPlaces ∙ lines-conflict g i j hi hj)
+      ∙ ap size (kept-places _)
+      ∙ size-below (g .n) _ (by .masks .narrow)
+
+  -- the number of two fragments that are kept
+  pub number-kept : T (marked frags i) → T (marked frags j) → pairNumber false words keep frags i j ≡ conflictCount g cols i j
+  unfolding pairNumber relatedNumber _and_
+  number-kept ki kj = rw (T-true (marked frags i) ki, T-true (marked frags j) kj) conflict-size
+
+  related-pos : (blocks : Bool) → (0 <? relatedNumber blocks keep (lineAt words i) (lineAt words j)) ≡ anyBelow (g .n) (λ c. marked cols c and codesRelate blocks (g .cell i c) (g .cell j c))
+  unfolding relatedNumber codesRelate conflictOnKept conflictOn
+  related-pos true =
+      bit-pos _
+      ∙ ap (λ (p : Places). occupied (bothOf keep p)) (lines (λ x y. bothOf (callPlaces x) (callPlaces y)) ∙ ap₂ bothOf (line-calls g i hi) (line-calls g j hj) ∙ both-below (g .n) _ _)
+      ∙ ap occupied (kept-places _)
+      ∙ occupied-below (g .n) _ (by .masks .narrow)
+  related-pos false = ap (λ (k : ℕ). 0 <? k) conflict-size ∙ kept-counted g cols i j
+
+  -- a number is over 0 exactly if the two fragments are kept and a kept column relates them
+  pub number-related : (blocks : Bool) → (0 <? pairNumber blocks words keep frags i j) ≡ related blocks g cols frags i j
+  unfolding pairNumber related
+  number-related blocks = kept-pos (marked frags i and marked frags j) _ (related-pos blocks)
