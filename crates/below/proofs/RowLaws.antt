@@ -3,9 +3,11 @@
 use mathlib.Core.Logic.{inl, inr}
 use mathlib.Core.Path.{_≡_, refl, sym, ap, ap₂, _∙_}
 use mathlib.Core.List.{List, _∷_, _++_}
-use Prim.Native.Nat.{ℕ, zero, suc, _+_, _*_, _≤_, _<_, _/_, _%_}
-use native.Mathlib.Nat.{not-suc-le-zero, suc-mul, zero-mul, zero-add, mul-le-mul-right, eq-zero-or-pos, div-lt-iff-lt-mul, mod-lt, div-add-mod', mul-zero}
+use Prim.Native.Nat.{ℕ, zero, suc, _+_, _*_, _^_, _≤_, _<_, _/_, _%_}
+use native.Mathlib.Nat.{not-suc-le-zero, suc-mul, zero-mul, zero-add, mul-le-mul, mul-le-mul-right, lt-of-le-of-lt, eq-zero-or-pos, div-lt-iff-lt-mul, mod-lt, div-add-mod', mul-zero}
+use native.Mathlib.Numerals.{add-one}
 use native.Mathlib.Omega.{arith}
+use lib.Dec.{lit<}
 use lib.ListN.{length, getD, take, drop, length-drop, length-append}
 use lib.Seq.{getD-take, getD-drop, length-take-le, take-add, drop-drop, take-all, take-at, drop-append-add, ext-getD}
 use Rattle.below.specs.Below.{tab, tabFrom, concat}
@@ -14,6 +16,14 @@ use Rattle.below.proofs.BelowLaws.{length-tab, getD-tab}
 -- row i of m rows ends within them
 pub row-within : (m w i : ℕ) → i < m → i * w + w ≤ m * w
 row-within m w i h = rw suc-mul at (mul-le-mul-right w h)
+
+-- the next row starts w places on
+pub row-next : (i w : ℕ) {at : ℕ} → at ≡ i * w → at + w ≡ (i + 1) * w
+row-next i w e = ap (λ (k : ℕ). k + w) e ∙ sym (ap (λ (k : ℕ). k * w) (add-one i) ∙ suc-mul i w)
+
+-- at most 128 rows of at most 128 places fit a usize
+pub product-fits : {w m : ℕ} → w ≤ 128 → m ≤ 128 → m * w < 2 ^ 64
+product-fits hw hm = lt-of-le-of-lt (mul-le-mul hm hw) (lit< tt)
 
 -- ---- lists of f 0, …, f (n - 1)
 

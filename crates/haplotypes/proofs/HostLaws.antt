@@ -24,7 +24,7 @@ use Rattle.conflicts.specs.Grid.{Grid, gridOf, depth}
 use Rattle.conflicts.specs.Sides.{errorFree}
 use Rattle.conflicts.specs.Removal.{snpKeepMarks, fragmentKeepMarks}
 use Rattle.conflicts.specs.Corrections.{changedCells, cellCount, differs}
-use Rattle.conflicts.specs.Services.{workRules, lengthRule, depthRules, packSizeRules, fragmentRules, unpackRules, packRules, checkRules, removalRules, correctionRules, unpackLeaves, packLeaves, findLeaves, checkLeaves, snpRemovalLeaves, fragmentRemovalLeaves, correctionsLeaves, lentStages, correctionStages}
+use Rattle.conflicts.specs.Services.{workRules, lengthRule, depthRules, packSizeRules, fragmentRules, unpackRules, packRules, checkRules, conflictCountsRules, removalRules, correctionRules, unpackLeaves, packLeaves, findLeaves, checkLeaves, conflictCountsLeaves, snpRemovalLeaves, fragmentRemovalLeaves, correctionsLeaves, lentStages, correctionStages}
 use Rattle.conflicts.specs.Host.{hostNumber, hostRead, HostFits}
 use Rattle.conflicts.proofs.Minimality.{snp-in, fragments-in}
 use Rattle.packing.proofs.SizeLaws.{pack-m}
@@ -205,6 +205,11 @@ check-fits n table answer = sized-fits wide n table _ _ λ hn hm.
     yes-or-no : (yes : Bool) → (if yes then 0 else 1) < 1000
     yes-or-no true = omega arith
     yes-or-no false = omega arith
+
+pub counts-fits : (n : ℕ) (table counts : List ℕ) → HostFits 4294967296 (conflictCountsLeaves n table counts .outcome)
+unfolding conflictCountsLeaves conflictCountsRules
+counts-fits n table counts = sized-fits wide-host n table _ _ λ hn hm.
+    (stage-more _ _ (length-named wide-host counts _ _ none-named) (records-named wide-host n table hm), omega arith)
 
 pub snp-fits : (n : ℕ) (table answer work : List ℕ) → HostFits 4294967296 (snpRemovalLeaves n table answer work .outcome)
 unfolding snpRemovalLeaves gridOf

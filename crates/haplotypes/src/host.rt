@@ -2,9 +2,10 @@
 ghost use mathlib.Core.Path.{_≡_};
 ghost use Prim.Native.Nat.{_≤_};
 ghost use Rattle.records.specs.Outcome.{outcomeOf};
-ghost use Rattle.conflicts.specs.Services.{unpackLeaves, packLeaves, findLeaves, checkLeaves, snpRemovalLeaves, fragmentRemovalLeaves, correctionsLeaves};
+ghost use Rattle.conflicts.specs.Services.{unpackLeaves, packLeaves, findLeaves, checkLeaves, conflictCountsLeaves, snpRemovalLeaves, fragmentRemovalLeaves, correctionsLeaves};
 ghost use Rattle.conflicts.specs.Host.{hostNumber, hostCode, hostOutcome, hostRead, HostFits};
 use correcting::least_corrections;
+use counting::conflict_counts;
 use packing::pack;
 use packing::unpack;
 use records::Outcome;
@@ -71,6 +72,16 @@ pub extern "C" fn haplotypes_check(n: usize, table: &[u8], answer: &mut [u8]) ->
     ensures answer { λ _. ⌜ now (answer .exit) ≡ checkLeaves n (now (table .entry)) (now (answer .entry)) .answer ⌝ }
 {
     host_number(1000, check(n, table, answer))
+}
+
+// conflict_counts: m, or a refusal.
+#[no_mangle]
+pub extern "C" fn haplotypes_conflict_counts(n: usize, table: &[u8], counts: &mut [u8]) -> u64
+    ensures number { λ r. ⌜ r ≡ hostOutcome (conflictCountsLeaves n (now (table .entry)) (now (counts .entry)) .outcome) ⌝ }
+    ensures read { λ r. ⌜ hostRead 4294967296 r ≡ conflictCountsLeaves n (now (table .entry)) (now (counts .entry)) .outcome ⌝ }
+    ensures counts { λ _. ⌜ now (counts .exit) ≡ conflictCountsLeaves n (now (table .entry)) (now (counts .entry)) .counts ⌝ }
+{
+    host_number(4294967296, conflict_counts(n, table, counts))
 }
 
 // S: the number of removed columns, or a refusal.

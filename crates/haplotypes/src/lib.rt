@@ -2,7 +2,9 @@
 mod host;
 
 pub use correcting::least_corrections;
+pub use counting::conflict_counts;
 pub use host::haplotypes_check;
+pub use host::haplotypes_conflict_counts;
 pub use host::haplotypes_find;
 pub use host::haplotypes_least_corrections;
 pub use host::haplotypes_least_fragment_removal;

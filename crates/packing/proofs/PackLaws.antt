@@ -4,7 +4,7 @@ use mathlib.Core.Path.{_≡_, refl, sym, ap, _∙_}
 use mathlib.Core.Bool.{Bool, true, false}
 use mathlib.Core.List.{List, _++_, append-assoc, append-nil, List·Memᴰ·head, List·Memᴰ·tail}
 use Prim.Native.Nat.{ℕ, zero, suc, _+_, _*_, _-_, _≤_, _<_}
-use native.Mathlib.Nat.{add-zero, suc-mul, add-sub-cancel-left}
+use native.Mathlib.Nat.{add-zero, add-sub-cancel-left}
 use native.Mathlib.Numerals.{add-one}
 use native.Mathlib.Omega.{arith}
 use lib.Dec.{T}
@@ -80,10 +80,6 @@ module _ (n : ℕ) (cells tags old : List ℕ) where
       let s : i ≡ length tags = omega arith in
       let d : length tags * 32 ≡ length old = omega arith in
       all .laid ∙ rw (s, d, drop-length, append-nil)
-
--- the row of the next fragment starts n cells on
-pub row-next : (i n : ℕ) {at : ℕ} → at ≡ i * n → at + n ≡ (i + 1) * n
-row-next i n e = ap (λ (k : ℕ). k + n) e ∙ sym (ap (λ (k : ℕ). k * n) (add-one i) ∙ suc-mul i n)
 
 -- ---- what pack returns and leaves, stage by stage
 

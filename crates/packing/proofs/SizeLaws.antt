@@ -3,10 +3,10 @@
 use mathlib.Core.Path.{_≡_, refl, sym, ap, _∙_}
 use mathlib.Core.Bool.{false}
 use mathlib.Core.List.{List, List·Memᴰ·head, List·Memᴰ·tail}
-use Prim.Native.Nat.{ℕ, _+_, _*_, _/_, _%_, _≤_, _<_, _^_}
-use native.Mathlib.Nat.{mul-zero, mul-le-mul, lt-of-le-of-lt, div-add-mod', mul-mod-left, mul-div-cancel}
+use Prim.Native.Nat.{ℕ, _+_, _*_, _/_, _%_, _≤_, _<_}
+use native.Mathlib.Nat.{mul-zero, div-add-mod', mul-mod-left, mul-div-cancel}
 use native.Mathlib.Omega.{arith}
-use lib.Dec.{lit<, eqb}
+use lib.Dec.{eqb}
 use lib.ListN.{length}
 use Rattle.below.specs.Below.{_==_}
 use Rattle.below.proofs.BelowLaws.{isnt-isnt, T-isnt-isnt, isnt-<?, le-isnt, same-test, ==-eq, eq-==}
@@ -43,10 +43,6 @@ unfolding packSizeRules
 pack-sized-of wide exact few = record {
   kept = rule-unbroken _ _ _ (le-isnt _ _ wide) ∙ rule-unbroken _ _ _ (T-isnt-isnt _ (eq-== _ _ exact)) ∙ rule-unbroken _ _ _ (le-isnt _ _ few) ∙ decide-none _;
 }
-
--- a product of two numbers up to 128 fits a usize
-pub product-fits : {n m : ℕ} → n ≤ 128 → m ≤ 128 → m * n < 2 ^ 64
-product-fits hn hm = lt-of-le-of-lt (mul-le-mul hm hn) (lit< tt)
 
 -- ---- a length that is a product, by a division
 

@@ -6,8 +6,9 @@ use native.Mathlib.Omega.{arith}
 use native.Mathlib.Nat.{zero-mul, add-sub-cancel-left}
 use lib.ListN.{length}
 use borrow.Author.Needs.{needs}
+use Rattle.below.proofs.RowLaws.{row-next}
 use borrow.Rule.Slice.PartMut.{same-len-mid, mid-len}
-use Rattle.packing.proofs.PackLaws.{Laid, record-written, laid-none, laid-more, laid-all, row-next}
+use Rattle.packing.proofs.PackLaws.{Laid, record-written, laid-none, laid-more, laid-all}
 use Rattle.packing.proofs.FragmentLaws.{row-record, row-writable, kept-small, kept-narrow}
 use Rattle.packing.proofs.SizeLaws.{pack-n, pack-m, pack-row}
 use Rattle.packing.proofs.packing.fill_table.Statement.{statement}

@@ -8,7 +8,8 @@ use borrow.Author.Needs.{needs}
 use Rattle.records.proofs.RuleLaws.{rule-broken, rule-kept, decide-none}
 use Rattle.below.proofs.SearchLaws.{<?-true, <?-false}
 use Rattle.packing.proofs.FragmentLaws.{tested-fragment}
-use Rattle.packing.proofs.SizeLaws.{pack-n, pack-m, pack-row, product-fits}
+use Rattle.below.proofs.RowLaws.{product-fits}
+use Rattle.packing.proofs.SizeLaws.{pack-n, pack-m, pack-row}
 use Rattle.packing.proofs.packing.fragment_fault.Statement.{statement}
 use Rattle.packing.proofs.packing.fragment_fault.Tie as tie
 

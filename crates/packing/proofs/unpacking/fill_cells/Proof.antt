@@ -11,9 +11,8 @@ use Rattle.below.specs.Below.{if_then_else_, _<?_, tab}
 use Rattle.records.specs.Record.{codeAt}
 use Rattle.records.specs.Table.{fragments, unpackedCells}
 use Rattle.below.proofs.FillLaws.{Filled, filled-none, filled-part, filled-all}
-use Rattle.below.proofs.RowLaws.{tab-ext, tab-again, row-within}
+use Rattle.below.proofs.RowLaws.{tab-ext, tab-again, row-within, row-next}
 use Rattle.packing.proofs.UnpackLaws.{unpacked-row, unpacked-length}
-use Rattle.packing.proofs.PackLaws.{row-next}
 use Rattle.packing.proofs.unpacking.fill_cells.Statement.{statement}
 use Rattle.packing.proofs.unpacking.fill_cells.Tie as tie
 

@@ -2,7 +2,7 @@ use Prim.Native.Nat.{ℕ, _*_}
 use mathlib.Core.Path.{sym, ap, _∙_}
 use Rattle.records.specs.Outcome.{outcomeOf}
 use Rattle.records.proofs.AcceptedLaws.{sized-count, sized-n, sized-m}
-use Rattle.packing.proofs.SizeLaws.{product-fits}
+use Rattle.below.proofs.RowLaws.{product-fits}
 use Rattle.packing.proofs.UnpackLaws.{unpack-cells, unpack-tags, unpack-records, unpack-refuses, unpack-accepts}
 use borrow.Author.Needs.{needs}
 use Rattle.packing.proofs.unpacking.unpack_sized.Statement.{statement}

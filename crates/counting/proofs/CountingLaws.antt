@@ -1,0 +1,128 @@
+-- What conflict_counts writes, row by row, and what it returns, stage by stage.
+-- Assumes nothing.
+use mathlib.Core.Path.{_≡_, sym, ap, ap₂, subst, _∙_}
+use mathlib.Core.Bool.{false}
+use mathlib.Core.List.{List, [], _∷_}
+use Prim.Native.Nat.{ℕ, _+_, _*_, _<_}
+use native.Mathlib.Omega.{arith}
+use lib.Dec.{T}
+use lib.ListN.{length}
+use Rattle.below.specs.Below.{_and_, tab, concat, nth}
+use Rattle.below.proofs.BelowLaws.{is-true, is-false, eq-==, ne-isnt, T-isnt-isnt, count-ext}
+use Rattle.below.proofs.RowLaws.{tab-ext, length-flat, flat-at}
+use Rattle.records.specs.Record.{codeAt}
+use Rattle.records.specs.Table.{fragments, recordAt}
+use Rattle.records.specs.Outcome.{Verdict, accepted, refused}
+use Rattle.records.specs.Rules.{Rule, decide, sizeRules, tableRules}
+use Rattle.records.specs.Algorithm.Kept.{SizesKept}
+use Rattle.records.proofs.RuleLaws.{accepted-count, rule-broken, rule-kept, decide-none, stage-kept, stage-refused, stage-last}
+use Rattle.records.proofs.AcceptedLaws.{sized-count, sized-n, sized-m}
+use Rattle.conflicts.specs.Choice.{marked, keepAll}
+use Rattle.conflicts.specs.Grid.{gridOf, callsConflict, conflictOn}
+use Rattle.conflicts.specs.Counts.{conflictCount, conflictCounts, CountsTold}
+use Rattle.conflicts.specs.Services.{written, lengthRule, conflictCountsRules, conflictCountsLeaves}
+use Rattle.conflicts.proofs.CountLaws.{counts-told}
+use Rattle.conflicts.proofs.Outcomes.{counts-refused}
+use Rattle.conflicts.proofs.SideLaws.{kept-all}
+use Rattle.matrix.specs.Algorithm.Cells.{tableCells}
+use Rattle.matrix.specs.Algorithm.Matrix.{matrixGrid}
+use Rattle.matrix.proofs.TableLaws.{cells-same}
+use Rattle.masks.specs.declared.places.Places.{Places}
+use Rattle.masks.specs.Algorithm.Places.{placesWhere}
+use Rattle.masks.specs.Algorithm.Masks.{maskWords}
+use Rattle.masks.specs.Algorithm.Pairs.{pairMatrix, Compared}
+use Rattle.masks.proofs.PairLaws.{matrix-at, number-kept}
+use Rattle.counting.specs.Algorithm.Rows.{rowsOf}
+use Rattle.counting.specs.Meanings.{ConflictCountsSay}
+
+-- ---- rows
+
+pub rows-length : (m : ℕ) (matrix : List ℕ) → length (rowsOf m matrix) ≡ m * m
+unfolding rowsOf
+rows-length m matrix = length-flat m _ m
+
+-- number j of row i
+pub rows-at : (m : ℕ) (matrix : List ℕ) (i j : ℕ) {first : ℕ} → first ≡ i * m → i < m → j < m → nth matrix (i * 128 + j) ≡ nth (rowsOf m matrix) (first + j)
+unfolding rowsOf
+rows-at m matrix i j e hi hj = sym (ap (λ (k : ℕ). nth (rowsOf m matrix) (k + j)) e ∙ flat-at m _ 0 m i j hi hj)
+
+-- ---- the numbers of a table
+
+module _ (n m : ℕ) (table : List ℕ) (sized : SizesKept n m table) where
+  -- the number of two fragments, by the cells and by the bytes
+  same-count : (i j : ℕ) → i < m → j < m → conflictCount (matrixGrid m n (tableCells n table)) (keepAll n) i j ≡ conflictCount (gridOf n table) (keepAll n) i j
+  unfolding conflictCount gridOf matrixGrid conflictOn
+  same-count i j hi hj =
+      let count = sized-count sized in
+      let few = sized-m sized in
+      let code : (p : ℕ) → p < m → (c : ℕ) → c < n → nth (tableCells n table) (p * 128 + c) ≡ codeAt (recordAt table p) c = λ p hp c hc. cells-same n table (sized-n sized) (omega arith) p c (omega arith) hc in
+      count-ext n _ _ (λ c h. ap₂ (λ (x y : ℕ). marked (keepAll n) c and callsConflict x y) (code i hi c h) (code j hj c h))
+
+  -- the rows of the matrix of all pairs
+  pub rows-count : {cells words cols frags matrix : List ℕ} {keep : Places} → cells ≡ tableCells n table → words ≡ maskWords (matrixGrid m n cells) → cols ≡ keepAll n → frags ≡ keepAll m
+      → keep ≡ placesWhere (marked cols) → matrix ≡ pairMatrix false words keep frags → rowsOf m matrix ≡ conflictCounts (gridOf n table)
+  unfolding rowsOf conflictCounts gridOf matrixGrid
+  rows-count {cells} {words} {cols} {frags} {matrix} {keep} ec ew ek ef ep em =
+      ap concat (tab-ext m _ _ (λ i hi. tab-ext m _ _ (λ j hj. entry i j hi hj)))
+      ∙ ap (λ (k : ℕ). concat (tab k (λ i. tab k (λ j. conflictCount (gridOf n table) (keepAll n) i j)))) (sym (sized-count sized))
+    where
+      entry : (i j : ℕ) → i < m → j < m → nth matrix (i * 128 + j) ≡ conflictCount (gridOf n table) (keepAll n) i j
+      entry i j hi hj =
+          let few = sized-m sized in
+          let by : Compared (matrixGrid m n cells) cols words keep = record { masks = record { few = few; narrow = sized-n sized; are = ew }; columns = ep } in
+          let marked-at : (k : ℕ) → k < m → T (marked frags k) = λ k h. subst (λ (l : List ℕ). T (marked l k)) (sym ef) (kept-all m k h) in
+          ap (λ (l : List ℕ). nth l (i * 128 + j)) em
+          ∙ matrix-at false words keep frags i j (omega arith) (omega arith)
+          ∙ number-kept by frags i j hi hj (marked-at i hi) (marked-at j hj)
+          ∙ ap₂ (λ (k l : List ℕ). conflictCount (matrixGrid m n l) k i j) ek ec
+          ∙ same-count i j hi hj
+
+-- ---- the service, stage by stage
+
+module _ (n : ℕ) (table lent : List ℕ) where
+  pub counts-sizes : (number place : ℕ) → decide (sizeRules n table) (accepted (fragments table)) ≡ refused number place → conflictCountsLeaves n table lent .outcome ≡ refused number place
+  unfolding conflictCountsLeaves conflictCountsRules
+  counts-sizes number place e = stage-refused _ _ _ _ number place e
+
+  -- a refusal, as the contract has it
+  pub counts-refuses : (number place : ℕ) → conflictCountsLeaves n table lent .outcome ≡ refused number place
+      → (refused number place ≡ conflictCountsLeaves n table lent .outcome) × (lent ≡ conflictCountsLeaves n table lent .counts)
+  counts-refuses number place e = (sym e, sym (counts-refused n number place table lent e))
+
+  module _ (m : ℕ) (sized : SizesKept n m table) where
+    lengths : List Rule
+    lengths = lengthRule lent (fragments table * fragments table) ∷ []
+
+    after-sizes : conflictCountsLeaves n table lent .outcome ≡ decide (concat (lengths ∷ tableRules n table ∷ [])) (accepted (fragments table))
+    unfolding conflictCountsLeaves conflictCountsRules lengths
+    after-sizes = stage-kept _ _ _ _ m (sized .kept)
+
+    size-is : fragments table * fragments table ≡ m * m
+    size-is = ap (λ (k : ℕ). k * k) (sized-count sized)
+
+    pub counts-length : (length lent ≡ m * m → ⊥) → conflictCountsLeaves n table lent .outcome ≡ refused 11 0
+    unfolding lengths lengthRule
+    counts-length f = after-sizes ∙ stage-refused _ _ 0 _ 11 0 (rule-broken _ _ _ (sym (is-true _ (ne-isnt _ _ (λ e. f (e ∙ size-is))))))
+
+    pub counts-records : length lent ≡ m * m → conflictCountsLeaves n table lent .outcome ≡ decide (tableRules n table) (accepted (fragments table))
+    unfolding lengths lengthRule
+    counts-records e =
+        after-sizes
+        ∙ stage-kept _ _ 0 _ 0 (rule-kept _ _ _ (sym (is-false _ (T-isnt-isnt _ (eq-== _ _ (e ∙ sym size-is))))) ∙ decide-none _)
+        ∙ stage-last _ _
+
+    -- an acceptance, as the contract has it
+    pub counts-accepts : (k : ℕ) {after : List ℕ} → length lent ≡ m * m → decide (tableRules n table) (accepted (fragments table)) ≡ accepted k → after ≡ conflictCounts (gridOf n table)
+        → (accepted m ≡ conflictCountsLeaves n table lent .outcome) × (after ≡ conflictCountsLeaves n table lent .counts)
+    unfolding conflictCountsLeaves
+    counts-accepts k e d is =
+        let v = counts-records e ∙ d in
+        (ap accepted (sym (sized-count sized) ∙ accepted-count (tableRules n table) (fragments table) k d) ∙ sym v, is ∙ sym (ap (λ (w : Verdict). written w (conflictCounts (gridOf n table)) lent) v))
+
+  -- what the contract's equations mean
+  pub counts-mean : {v : Verdict} {after : List ℕ} → v ≡ conflictCountsLeaves n table lent .outcome → after ≡ conflictCountsLeaves n table lent .counts → ConflictCountsSay n table after v
+  unfolding conflictCountsLeaves
+  counts-mean {v} {after} e d = record {
+    returned = λ k a. sym (accepted-count (conflictCountsRules n table lent) (fragments table) k (sym e ∙ a));
+    told = λ k a. subst (CountsTold (gridOf n table)) (sym (d ∙ ap (λ (w : Verdict). written w (conflictCounts (gridOf n table)) lent) (sym e ∙ a))) (counts-told (gridOf n table));
+  }

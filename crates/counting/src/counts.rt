@@ -1,0 +1,96 @@
+// conflict_counts: on how many columns each two fragments conflict.
+ghost use mathlib.Core.Path.{_≡_};
+ghost use Prim.Native.Nat.{_+_, _*_, _≤_};
+ghost use lib.ListN.{length, getD};
+ghost use Rattle.below.specs.Below.{tab};
+ghost use Rattle.records.specs.Outcome.{outcomeOf};
+ghost use Rattle.records.specs.Algorithm.Kept.{SizesKept};
+ghost use Rattle.conflicts.specs.Grid.{gridOf};
+ghost use Rattle.conflicts.specs.Counts.{conflictCounts};
+ghost use Rattle.conflicts.specs.Services.{conflictCountsLeaves};
+ghost use Rattle.counting.specs.Algorithm.Rows.{rowsOf};
+ghost use Rattle.counting.specs.Meanings.{ConflictCountsSay};
+use masks::fill_masks;
+use masks::fill_pairs;
+use masks::kept;
+use masks::mask_room;
+use matrix::all_kept;
+use matrix::blank_cells;
+use matrix::fill_matrix;
+use records::Outcome;
+use records::records_fault;
+use records::size_fault;
+
+// Writes the numbers of a matrix from one place on.
+fn copy_row(matrix: &[u8], from: usize, row: &mut [u8])
+    requires { ⌜ from + length (now row) ≤ length (now matrix) ⌝ }
+    ensures { λ _. ⌜ now (row .exit) ≡ tab (length (now (row .entry))) (λ j. getD (now (matrix .entry)) (from + j) 0) ⌝ }
+{
+    let mut j = 0;
+    while j < row.len() {
+        row[j] = matrix[from + j];
+        j += 1;
+    }
+}
+
+// Writes the first m numbers of the first m rows of a matrix, 128 to a row.
+fn copy_rows(m: usize, matrix: &[u8], counts: &mut [u8])
+    requires { ⌜ (m ≤ 128) × (length (now matrix) ≡ 16384) × (length (now counts) ≡ m * m) ⌝ }
+    ensures { λ _. ⌜ now (counts .exit) ≡ rowsOf m (now (matrix .entry)) ⌝ }
+{
+    let mut first = 0;
+    let mut i = 0;
+    while i < m {
+        copy_row(matrix, i * 128, &mut counts[first..first + m]);
+        first += m;
+        i += 1;
+    }
+}
+
+// Writes the m × m numbers of a table.
+fn count_table(n: usize, m: usize, table: &[u8], counts: &mut [u8])
+    requires { ⌜ SizesKept n m (now table) ⌝ }
+    requires { ⌜ length (now counts) ≡ m * m ⌝ }
+    ensures { λ _. ⌜ now (counts .exit) ≡ conflictCounts (gridOf n (now (table .entry))) ⌝ }
+{
+    let mut cells = blank_cells();
+    let mut masks = mask_room();
+    let mut matrix = blank_cells();
+    let all = all_kept();
+    fill_matrix(n, table, &mut cells);
+    fill_masks(m, n, &cells, &mut masks);
+    fill_pairs(false, &masks, kept(&all[0..n]), &all[0..m], &mut matrix);
+    copy_rows(m, &matrix, counts);
+}
+
+// conflict_counts once the sizes are kept: the counts' length, then the records.
+fn counts_sized(n: usize, m: usize, table: &[u8], counts: &mut [u8]) -> Outcome
+    requires { ⌜ SizesKept n m (now table) ⌝ }
+    ensures outcome { λ r. ⌜ outcomeOf r ≡ conflictCountsLeaves n (now (table .entry)) (now (counts .entry)) .outcome ⌝ }
+    ensures counts { λ _. ⌜ now (counts .exit) ≡ conflictCountsLeaves n (now (table .entry)) (now (counts .entry)) .counts ⌝ }
+{
+    if counts.len() != m * m {
+        return Outcome::Refused(11, 0);
+    }
+    let rest = records_fault(n, table);
+    match rest {
+        Outcome::Refused(number, place) => Outcome::Refused(number, place),
+        Outcome::Accepted(_) => {
+            count_table(n, m, table, counts);
+            Outcome::Accepted(m)
+        }
+    }
+}
+
+// Accepted with m, and m × m bytes: row by row, on how many columns fragments i and j conflict. A refusal writes nothing. Takes 40 KB of stack.
+pub fn conflict_counts(n: usize, table: &[u8], counts: &mut [u8]) -> Outcome
+    ensures outcome { λ r. ⌜ outcomeOf r ≡ conflictCountsLeaves n (now (table .entry)) (now (counts .entry)) .outcome ⌝ }
+    ensures counts { λ _. ⌜ now (counts .exit) ≡ conflictCountsLeaves n (now (table .entry)) (now (counts .entry)) .counts ⌝ }
+    ensures meaning { λ r. ⌜ ConflictCountsSay n (now (table .entry)) (now (counts .exit)) (outcomeOf r) ⌝ }
+{
+    let sizes = size_fault(n, table);
+    match sizes {
+        Outcome::Refused(number, place) => Outcome::Refused(number, place),
+        Outcome::Accepted(m) => counts_sized(n, m, table, counts),
+    }
+}
