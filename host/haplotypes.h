@@ -1,4 +1,4 @@
-/* Pikondaur's seven services for programs in C (C11 and later) and C++ (C++17 and later).
+/* Pikondaur's eight services for programs in C (C11 and later) and C++ (C++17 and later).
  * Link target/staticlib/libhaplotypes.a, which `rt staticlib haplotypes` writes. It needs nothing but the C library's memset.
  *
  * Tables. A table has m fragments of 32 bytes each and n columns (SNPs), m and n at most 128. Its bytes tell m; n comes with the call. Numbers
@@ -36,11 +36,11 @@
  *
  * Refusals. The first rule that is broken decides:
  *
- *   unpack, check   3, 1, 2, 11; then the records from 0 on, each by 4, 5, 6, 7, 8, 9
- *   S, F            3, 1, 2, 10, 11; then the records as above
- *   C               as S and F; then 12
- *   pack            3, 1, 2, 11; then the fragments from 0 on, each by 6, 4, 8, 9
- *   find            refuses nothing
+ *   unpack, check, conflict_counts   3, 1, 2, 11; then the records from 0 on, each by 4, 5, 6, 7, 8, 9
+ *   S, F                             3, 1, 2, 10, 11; then the records as above
+ *   C                                as S and F; then 12
+ *   pack                             3, 1, 2, 11; then the fragments from 0 on, each by 6, 4, 8, 9
+ *   find                             refuses nothing
  */
 #ifndef PIKONDAUR_HAPLOTYPES_H
 #define PIKONDAUR_HAPLOTYPES_H
@@ -99,13 +99,14 @@ enum {
     HAPLOTYPES_STACK_PACK = 8 * 1024,
     HAPLOTYPES_STACK_FIND = 8 * 1024,
     HAPLOTYPES_STACK_CHECK = 40 * 1024,
+    HAPLOTYPES_STACK_CONFLICT_COUNTS = 48 * 1024,
     HAPLOTYPES_STACK_LEAST_SNP_REMOVAL = 40 * 1024,
     HAPLOTYPES_STACK_LEAST_FRAGMENT_REMOVAL = 304 * 1024,
     HAPLOTYPES_STACK_LEAST_CORRECTIONS = 64 * 1024
 };
 
 typedef uint64_t haplotypes_verdict; /* what check returns */
-typedef uint64_t haplotypes_count;   /* what unpack, pack, S, F and C return */
+typedef uint64_t haplotypes_count;   /* what unpack, pack, conflict_counts, S, F and C return */
 
 /* A null pointer, or a result that nobody reads, is a warning. */
 #ifdef __GNUC__
@@ -133,6 +134,12 @@ HAPLOTYPES_SERVICE size_t haplotypes_find(uint32_t tag, const uint8_t *table, si
  * Exact: answer_length is 3n + 2m, or the call is refused (11). */
 HAPLOTYPES_SERVICE haplotypes_verdict haplotypes_check(size_t n, const uint8_t *table, size_t table_length, uint8_t *answer, size_t answer_length);
 
+/* For each two fragments the number of columns on which they conflict: one calls A and the other B. The m * m bytes stand row by row, that of
+ * fragments i and j at m * i + j. A number is at most 96, the same for j and i, and 0 for a fragment against itself. Returns m.
+ * Exact: counts_length is m * m, or the call is refused (11). */
+HAPLOTYPES_SERVICE haplotypes_count haplotypes_conflict_counts(size_t n, const uint8_t *table, size_t table_length,
+                                                               uint8_t *counts, size_t counts_length);
+
 /* S: the fewest columns to remove so that the rest is error-free. Returns their number, which is that of the keep marks 0.
  * Exact: answer_length is 3n + 2m, or the call is refused (11). Work has HAPLOTYPES_WORK numbers or more (10), and is all 0 afterwards. */
 HAPLOTYPES_SERVICE haplotypes_count haplotypes_least_snp_removal(size_t n, const uint8_t *table, size_t table_length,
@@ -150,7 +157,7 @@ HAPLOTYPES_SERVICE haplotypes_count haplotypes_least_corrections(size_t n, const
                                                                  uint16_t *work, size_t work_length, uint8_t *answer, size_t answer_length,
                                                                  uint8_t *corrected, size_t corrected_length);
 
-/* ---- readers of a count, from unpack, pack, S, F and C. An accepted count is the number itself. */
+/* ---- readers of a count, from unpack, pack, conflict_counts, S, F and C. An accepted count is the number itself. */
 
 static inline int haplotypes_count_accepted(haplotypes_count count) { return count >> 32 == 0; }
 

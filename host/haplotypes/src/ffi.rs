@@ -27,6 +27,13 @@ extern "C" {
         answer: *mut u8,
         answer_length: usize,
     ) -> u64;
+    pub fn haplotypes_conflict_counts(
+        n: usize,
+        table: *const u8,
+        table_length: usize,
+        counts: *mut u8,
+        counts_length: usize,
+    ) -> u64;
     pub fn haplotypes_least_snp_removal(
         n: usize,
         table: *const u8,

@@ -1,7 +1,7 @@
 //! Pikondaur's services: the fragments of one animal, sorted into the two parental copies.
 //!
 //! The library is written in Rattle and proved: for all inputs each call returns what its contract says, and writes nothing where it refuses.
-//! This crate hands its seven services to Rust as safe functions over slices. `README.md` and `docs/TRUST.md` of the repository say what is
+//! This crate hands its eight services to Rust as safe functions over slices. `README.md` and `docs/TRUST.md` of the repository say what is
 //! proved and what that rests on.
 //!
 //! A table is 32 bytes to a fragment: tag (4 bytes, little-endian), start (2), span (1), a byte that is 0, and 96 cells of two bits, four to a
@@ -121,6 +121,26 @@ pub fn find(tag: u32, table: &[u8]) -> &[u8] {
 /// ```
 pub fn check(n: usize, table: &[u8], answer: &mut [u8]) -> Outcome {
     read(CHECK, unsafe { ffi::haplotypes_check(n, table.as_ptr(), table.len(), answer.as_mut_ptr(), answer.len()) })
+}
+
+/// For each two fragments the number of columns on which they conflict: one calls A and the other B. The m × m counts stand row by row, that of
+/// fragments i and j at m × i + j, and are 0 for a fragment against itself. Accepted with m.
+///
+/// ```
+/// use haplotypes::{conflict_counts, pack, Outcome};
+///
+/// let mut table = [0; 96];
+/// pack(3, &[1, 1, 0, 2, 1, 1, 0, 2, 2], &[10, 11, 12], &mut table); // AA-, BAA, -BB
+/// let mut counts = [9; 3 * 3];
+/// assert_eq!(conflict_counts(3, &table, &mut counts), Outcome::Accepted(3));
+/// assert_eq!(counts, [0, 1, 1, 1, 0, 2, 1, 2, 0]); // the last two conflict on two columns
+///
+/// assert_eq!(conflict_counts(3, &table, &mut counts[1..]), Outcome::Refused(11, 0)); // a count too few
+/// ```
+pub fn conflict_counts(n: usize, table: &[u8], counts: &mut [u8]) -> Outcome {
+    read(COUNT, unsafe {
+        ffi::haplotypes_conflict_counts(n, table.as_ptr(), table.len(), counts.as_mut_ptr(), counts.len())
+    })
 }
 
 /// S: the fewest columns to remove so that the rest is error-free. Accepted with their number, the answer, and the work all zero.
