@@ -7,7 +7,7 @@
 #include <stdio.h>
 #include <stdlib.h>
 
-enum service { UNPACK, PACK, FIND, CHECK, SNPS, FRAGMENTS, CORRECTIONS, SERVICES };
+enum service { UNPACK, PACK, FIND, CHECK, CONFLICT_COUNTS, SNPS, FRAGMENTS, CORRECTIONS, SERVICES };
 
 enum { GIVEN = 2, LENT = 3 }; /* the most inputs and outputs of a service */
 
@@ -26,13 +26,14 @@ struct output {
     size_t unit; /* bytes of an element; 0: the service has no such output */
 };
 
-static const char *const service_names[SERVICES] = {"unpack", "pack", "find", "check", "S", "F", "C"};
+static const char *const service_names[SERVICES] = {"unpack", "pack", "find", "check", "conflict_counts", "S", "F", "C"};
 
 static const struct output service_outputs[SERVICES][LENT] = {
     {{"cells", 1}, {"tags", 4}, {"", 0}},
     {{"table", 1}, {"", 0}, {"", 0}},
     {{"", 0}, {"", 0}, {"", 0}},
     {{"answer", 1}, {"", 0}, {"", 0}},
+    {{"counts", 1}, {"", 0}, {"", 0}},
     {{"work", 2}, {"answer", 1}, {"", 0}},
     {{"work", 2}, {"answer", 1}, {"", 0}},
     {{"work", 2}, {"answer", 1}, {"corrected table", 1}},
@@ -43,7 +44,7 @@ static inline void exact_lengths(enum service service, size_t n, size_t m, size_
 {
     const size_t answer = haplotypes_answer_length(n, m), work = 2 * HAPLOTYPES_WORK, table = HAPLOTYPES_RECORD * m;
     const size_t exact[SERVICES][LENT] = {
-        {m * n, 4 * m, 0}, {table, 0, 0}, {0, 0, 0}, {answer, 0, 0}, {work, answer, 0}, {work, answer, 0}, {work, answer, table},
+        {m * n, 4 * m, 0}, {table, 0, 0}, {0, 0, 0}, {answer, 0, 0}, {m * m, 0, 0}, {work, answer, 0}, {work, answer, 0}, {work, answer, table},
     };
     for (size_t k = 0; k < LENT; k++)
         lengths[k] = exact[service][k];
@@ -66,6 +67,8 @@ static inline uint64_t call(enum service service, size_t n, const struct given *
         return haplotypes_find((uint32_t)n, first, length);
     case CHECK:
         return haplotypes_check(n, first, length, (uint8_t *)out[0].bytes, out[0].length);
+    case CONFLICT_COUNTS:
+        return haplotypes_conflict_counts(n, first, length, (uint8_t *)out[0].bytes, out[0].length);
     case SNPS:
         return haplotypes_least_snp_removal(n, first, length, work, numbers, answer, out[1].length);
     case FRAGMENTS:

@@ -36,12 +36,15 @@ static const uint8_t printed_s[] = {1, 0, 1, 1, 3, 2, 2, 3, 1, 1, 2, 1, 0, 0, 0}
 static const uint8_t printed_f[] = {1, 1, 1, 1, 1, 0, 2, 1, 1, 1, 2, 0, 0, 0, 255}; /* 111 AA- BAA 120 0,0,- */
 static const uint8_t printed_c[] = {1, 1, 1, 1, 1, 1, 0, 2, 2, 1, 1, 2, 0, 0, 0};   /* 111 AAA -BB 112 0,0,0 */
 static const uint8_t corrected[][32] = {RECORD(10, 0, 2, 0x05), RECORD(11, 0, 3, 0x15), RECORD(12, 1, 2, 0x0A)};
+static const uint8_t printed_counts[] = {0, 1, 1, 1, 0, 2, 1, 2, 0}; /* 0 and 1: column 0; 0 and 2: column 1; 1 and 2: columns 1, 2 */
 static const uint16_t work[HAPLOTYPES_WORK] = {0}, more_work[HAPLOTYPES_WORK + 1] = {0};
 
 static const uint8_t pair[][32] = {RECORD(1, 0, 1, 1), RECORD(2, 0, 1, 2)}; /* A, B */
-static const uint8_t pair_answer[] = {1, 1, 2, 1, 2, 0, 0};
+static const uint8_t pair_answer[] = {1, 1, 2, 1, 2, 0, 0}, pair_counts[] = {0, 1, 1, 0};
 static const uint8_t same[][32] = {RECORD(1, 0, 2, 5), RECORD(2, 0, 2, 5)}; /* AA, AA */
 static const uint8_t same_answer[] = {1, 1, 1, 1, 0, 0, 1, 1, 0, 0};
+static const uint8_t opposite[][32] = {RECORD(1, 0, 2, 5), RECORD(2, 0, 2, 10)}; /* AA, BB */
+static const uint8_t opposite_counts[] = {0, 2, 2, 0};
 static const uint8_t apart[][32] = {RECORD(1, 0, 1, 1), RECORD(2, 2, 1, 2), RECORD(3, 0, 0, 0)}; /* A--, --B, --- */
 static const uint8_t apart_answer[] = {1, 1, 1, 1, 0, 2, 0, 0, 0, 1, 1, 1, 0, 1, 2};
 static const uint8_t wide_tags[][32] = {{0xEF, 0xCD, 0xAB, 0x89}, {0xFF, 0xFF, 0xFF, 0xFF}};
@@ -59,8 +62,11 @@ static const uint8_t twice[][32] = {RECORD(1, 0, 1, 1), RECORD(1, 0, 1, 2)};
 static const uint8_t gapped_cells[] = {1, 2, 0, 0, 1, 2, 2, 0, 1}, unknown_cells[] = {1, 1, 0, 2, 3, 1, 0, 2, 2};
 static const uint32_t same_tags[] = {10, 11, 10};
 
-/* made at the start: 129 fragments A at column 0, the answer of 128 of them for 1 and for 128 columns; a row of calls at 97 columns */
-static uint8_t crowd[129][32], crowd_answer[3 + 256], wide_crowd_answer[3 * 128 + 256], long_row[97];
+static const uint8_t no_conflicts[128 * 128] = {0}; /* the counts of up to 128 fragments */
+
+/* made at the start: 129 fragments A at column 0, the answer of 128 of them for 1 and for 128 columns; a row of calls at 97 columns; 128 fragments that call
+ * columns 32 to 127, As and Bs by turns, and their counts */
+static uint8_t crowd[129][32], crowd_answer[3 + 256], wide_crowd_answer[3 * 128 + 256], long_row[97], turns[128][32], turns_counts[128 * 128];
 
 static void make_tables(void)
 {
@@ -73,6 +79,14 @@ static void make_tables(void)
     memset(wide_crowd_answer, 1, 128 + 1);
     memset(wide_crowd_answer + 3 * 128, 1, 128);
     memset(long_row, 2, sizeof long_row);
+    for (size_t i = 0; i < COUNT(turns); i++) {
+        turns[i][0] = (uint8_t)i;
+        turns[i][4] = 32;
+        turns[i][6] = 96;
+        memset(turns[i] + 8, i % 2 ? 0xAA : 0x55, 24);
+        for (size_t j = 0; j < COUNT(turns); j++)
+            turns_counts[128 * i + j] = i % 2 == j % 2 ? 0 : 96;
+    }
 }
 
 /* ---- calls by hand: one line each */
@@ -111,6 +125,16 @@ static const struct row rows[] = {
     {"check 128 fragments", CHECK, 1, 0, {{crowd, 32 * 128}, NONE}, {ALL(crowd_answer), NONE, NONE}},
     {"check 128 fragments, 128 columns", CHECK, 128, 0, {{crowd, 32 * 128}, NONE}, {ALL(wide_crowd_answer), NONE, NONE}},
 
+    {"conflict_counts", CONFLICT_COUNTS, 3, 3, {ALL(printed), NONE}, {ALL(printed_counts), NONE, NONE}},
+    {"conflict_counts of pair", CONFLICT_COUNTS, 1, 2, {ALL(pair), NONE}, {ALL(pair_counts), NONE, NONE}},
+    {"conflict_counts of same", CONFLICT_COUNTS, 2, 2, {ALL(same), NONE}, {{no_conflicts, 4}, NONE, NONE}},
+    {"conflict_counts of opposite", CONFLICT_COUNTS, 2, 2, {ALL(opposite), NONE}, {ALL(opposite_counts), NONE, NONE}},
+    {"conflict_counts of apart", CONFLICT_COUNTS, 3, 3, {ALL(apart), NONE}, {{no_conflicts, 9}, NONE, NONE}},
+    {"conflict_counts of no records", CONFLICT_COUNTS, 0, 0, {NONE, NONE}, {NONE, NONE, NONE}},
+    {"conflict_counts of fragments, no columns", CONFLICT_COUNTS, 0, 2, {ALL(wide_tags), NONE}, {{no_conflicts, 4}, NONE, NONE}},
+    {"conflict_counts of 128 fragments", CONFLICT_COUNTS, 1, 128, {{crowd, 32 * 128}, NONE}, {ALL(no_conflicts), NONE, NONE}},
+    {"conflict_counts of 128 fragments, 128 columns", CONFLICT_COUNTS, 128, 128, {ALL(turns), NONE}, {ALL(turns_counts), NONE, NONE}},
+
     {"S", SNPS, 3, 1, {ALL(printed), NONE}, {ALL(work), ALL(printed_s), NONE}},
     {"S with more work", SNPS, 3, 1, {ALL(printed), NONE}, {ALL(more_work), ALL(printed_s), NONE}},
     {"S of no records", SNPS, 0, 0, {NONE, NONE}, {ALL(work), NONE, NONE}},
@@ -127,7 +151,7 @@ static const struct row rows[] = {
     {"C of 9 calls in a column", CORRECTIONS, 1, REFUSED(12, 0), {{crowd, 32 * 9}, NONE}, {LEFT(65536), LEFT(21), LEFT(32 * 9)}},
 };
 
-/* Tables that unpack, check, S, F and C refuse alike. */
+/* Tables that every service but pack and find refuses alike. */
 static const struct {
     const char *name;
     size_t n;
@@ -226,7 +250,7 @@ static void test_row(const struct row *row)
 /* A table that is refused, with outputs of exact lengths. */
 static void test_refused(size_t i)
 {
-    static const enum service services[] = {UNPACK, CHECK, SNPS, FRAGMENTS, CORRECTIONS};
+    static const enum service services[] = {UNPACK, CHECK, CONFLICT_COUNTS, SNPS, FRAGMENTS, CORRECTIONS};
     for (size_t s = 0; s < COUNT(services); s++) {
         char name[80];
         size_t lengths[LENT];
@@ -263,7 +287,7 @@ static void test_length(const struct row *exact, size_t k, int longer)
 
 static void test_lengths(void)
 {
-    static const char *const names[] = {"unpack", "pack", "check pair", "S", "F", "C"};
+    static const char *const names[] = {"unpack", "pack", "check pair", "conflict_counts", "S", "F", "C"};
     for (size_t i = 0; i < COUNT(rows); i++)
         for (size_t j = 0; j < COUNT(names); j++)
             for (size_t k = 0; strcmp(rows[i].name, names[j]) == 0 && k < LENT; k++) {
