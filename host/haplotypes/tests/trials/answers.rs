@@ -4,42 +4,64 @@ use crate::calls::Trials;
 use crate::expected::{Each, Expected};
 use crate::fixtures::Fixture;
 
-/// An error-free table: its name, its fragments, and the one answer of check, S, F and C.
-type ErrorFree = (&'static str, &'static [&'static str], &'static str);
+/// An error-free table: its name, its fragments, the numbers of conflict_counts, and the one answer of check, S, F and
+/// C.
+type ErrorFree = (&'static str, &'static [&'static str], &'static str, &'static str);
 
 const ERROR_FREE: [ErrorFree; 17] = [
-    ("paper: no records, no columns", &[], ". . . . ."),
-    ("paper: A and B on one column", &["A", "B"], "1 A B 12 0,0"),
-    ("paper: AA and AA", &["AA", "AA"], "11 AA -- 11 0,0"),
-    ("paper: a column no one calls", &["A--", "--B"], "111 A-B --- 11 0,1"),
-    ("a column no one calls, between two that are mixed", &["A--", "B--", "--B", "--A"], "111 A-B B-A 1212 0,0,2,2"),
-    ("one B", &["B"], "1 B - 1 0"),
-    ("equal fragments", &["AA", "AA", "AA"], "11 AA -- 111 0,0,0"),
-    ("BB in the middle", &["AA", "BB", "AA"], "11 AA BB 121 0,0,0"),
-    ("BB first", &["BB", "AA", "AA"], "11 BB AA 122 0,0,0"),
-    ("a fragment without calls before the last", &["AA", "BB", "--", "BB"], "11 AA BB 1212 0,0,2,0"),
-    ("one fragment without calls", &["--"], "11 -- -- 1 0"),
-    ("only fragments without calls", &["--", "--", "--"], "11 -- -- 111 0,1,2"),
-    ("fragments, and no columns", &["", ""], ". . . 11 0,1"),
-    ("two blocks, the sides of each from 1 on", &["AA--", "BB--", "--BB", "--AA"], "1111 AABB BBAA 1212 0,0,2,2"),
-    ("two blocks, by turns", &["--B", "BB-", "--A", "AB-"], "111 BBB ABA 1122 0,1,0,1"),
-    ("a chain", &["AB--", "-AB-", "--AB"], "1111 ABAB -AB- 121 0,0,0"),
-    ("a chain that the last fragment joins", &["A---", "---A", "-B--", "AABB"], "1111 AB-A AABB 1112 0,0,0,0"),
+    ("paper: no records, no columns", &[], ".", ". . . . ."),
+    ("paper: A and B on one column", &["A", "B"], "01 10", "1 A B 12 0,0"),
+    ("paper: AA and AA", &["AA", "AA"], "00 00", "11 AA -- 11 0,0"),
+    ("paper: a column no one calls", &["A--", "--B"], "00 00", "111 A-B --- 11 0,1"),
+    (
+        "a column no one calls, between two that are mixed",
+        &["A--", "B--", "--B", "--A"],
+        "0100 1000 0001 0010",
+        "111 A-B B-A 1212 0,0,2,2",
+    ),
+    ("one B", &["B"], "0", "1 B - 1 0"),
+    ("equal fragments", &["AA", "AA", "AA"], "000 000 000", "11 AA -- 111 0,0,0"),
+    ("BB in the middle", &["AA", "BB", "AA"], "020 202 020", "11 AA BB 121 0,0,0"),
+    ("BB first", &["BB", "AA", "AA"], "022 200 200", "11 BB AA 122 0,0,0"),
+    (
+        "a fragment without calls before the last",
+        &["AA", "BB", "--", "BB"],
+        "0202 2000 0000 2000",
+        "11 AA BB 1212 0,0,2,0",
+    ),
+    ("one fragment without calls", &["--"], "0", "11 -- -- 1 0"),
+    ("only fragments without calls", &["--", "--", "--"], "000 000 000", "11 -- -- 111 0,1,2"),
+    ("fragments, and no columns", &["", ""], "00 00", ". . . 11 0,1"),
+    (
+        "two blocks, the sides of each from 1 on",
+        &["AA--", "BB--", "--BB", "--AA"],
+        "0200 2000 0002 0020",
+        "1111 AABB BBAA 1212 0,0,2,2",
+    ),
+    ("two blocks, by turns", &["--B", "BB-", "--A", "AB-"], "0010 0001 1000 0100", "111 BBB ABA 1122 0,1,0,1"),
+    ("a chain", &["AB--", "-AB-", "--AB"], "010 101 010", "1111 ABAB -AB- 121 0,0,0"),
+    (
+        "a chain that the last fragment joins",
+        &["A---", "---A", "-B--", "AABB"],
+        "0000 0001 0001 0110",
+        "1111 AB-A AABB 1112 0,0,0,0",
+    ),
 ];
 
 #[test]
 fn error_free_tables() {
     let mut trials = Trials::default();
-    for (name, fragments, fields) in ERROR_FREE {
+    for (name, fragments, conflict_counts, fields) in ERROR_FREE {
         let given = Fixture::of(fragments);
-        trials.run_each(name, &given, &Each::of_error_free(&given, fields));
+        trials.run_each(name, &given, &Each::of_error_free(&given, Expected::counted(conflict_counts), fields));
     }
 }
 
-/// A table that is not: the lines of S, F and C, and the fragments of C's table.
+/// A table that is not: the numbers of conflict_counts, the lines of S, F and C, and the fragments of C's table.
 struct Errors {
     name: &'static str,
     fragments: &'static [&'static str],
+    conflict_counts: &'static str,
     s: &'static str,
     f: &'static str,
     c: &'static str,
@@ -50,6 +72,7 @@ const ERRORS: [Errors; 14] = [
     Errors {
         name: "paper: printed",
         fragments: &["AA-", "BAA", "-BB"],
+        conflict_counts: "011 102 120",
         s: "1 101 A#B B#A 121 0,0,0",
         f: "1 111 AA- BAA 120 0,0,-",
         c: "1 111 AAA -BB 112 0,0,0",
@@ -58,6 +81,7 @@ const ERRORS: [Errors; 14] = [
     Errors {
         name: "paper: AA, AB, BA",
         fragments: &["AA", "AB", "BA"],
+        conflict_counts: "011 102 120",
         s: "1 10 A# B# 112 0,0,0",
         f: "1 11 AA AB 120 0,0,-",
         c: "1 11 AA BA 112 0,0,0",
@@ -66,6 +90,7 @@ const ERRORS: [Errors; 14] = [
     Errors {
         name: "paper: AA, AB, BA, BB",
         fragments: &["AA", "AB", "BA", "BB"],
+        conflict_counts: "0112 1021 1201 2110",
         s: "1 10 A# B# 1122 0,0,0,0",
         f: "2 11 AA AB 1200 0,0,-,-",
         c: "2 11 AA BB 1112 0,0,0,0",
@@ -75,6 +100,7 @@ const ERRORS: [Errors; 14] = [
     Errors {
         name: "BB, BA, AB, AA",
         fragments: &["BB", "BA", "AB", "AA"],
+        conflict_counts: "0112 1021 1201 2110",
         s: "1 10 B# A# 1122 0,0,0,0",
         f: "2 11 BB BA 1200 0,0,-,-",
         c: "2 11 BB AA 1112 0,0,0,0",
@@ -83,6 +109,7 @@ const ERRORS: [Errors; 14] = [
     Errors {
         name: "printed, -BB first",
         fragments: &["-BB", "AA-", "BAA"],
+        conflict_counts: "012 101 210",
         s: "1 101 A#B B#A 112 0,0,0",
         f: "1 111 -BB AA- 120 0,0,-",
         c: "1 111 AAB BAA 112 0,0,0",
@@ -91,6 +118,7 @@ const ERRORS: [Errors; 14] = [
     Errors {
         name: "printed, BAA first",
         fragments: &["BAA", "-BB", "AA-"],
+        conflict_counts: "021 201 110",
         s: "1 101 B#A A#B 122 0,0,0",
         f: "1 111 BAA -BB 120 0,0,-",
         c: "1 111 AAA -BB 121 0,0,0",
@@ -99,6 +127,7 @@ const ERRORS: [Errors; 14] = [
     Errors {
         name: "AA, BA, AB: one B among As in column 1",
         fragments: &["AA", "BA", "AB"],
+        conflict_counts: "011 102 120",
         s: "1 10 A# B# 121 0,0,0",
         f: "1 11 AA BA 120 0,0,-",
         c: "1 11 AA AB 112 0,0,0",
@@ -108,6 +137,7 @@ const ERRORS: [Errors; 14] = [
     Errors {
         name: "an unmixed column between",
         fragments: &["AAA", "AAB", "BAA"],
+        conflict_counts: "011 102 120",
         s: "1 110 AA# BA# 112 0,0,0",
         f: "1 111 AAA AAB 120 0,0,-",
         c: "1 111 AAA BAA 112 0,0,0",
@@ -116,6 +146,7 @@ const ERRORS: [Errors; 14] = [
     Errors {
         name: "a column no one calls",
         fragments: &["AA-", "AB-", "BA-"],
+        conflict_counts: "011 102 120",
         s: "1 101 A#- B#- 112 0,0,0",
         f: "1 111 AA- AB- 120 0,0,-",
         c: "1 111 AA- BA- 112 0,0,0",
@@ -124,6 +155,7 @@ const ERRORS: [Errors; 14] = [
     Errors {
         name: "a fragment without calls",
         fragments: &["AA", "AB", "BA", "--"],
+        conflict_counts: "0110 1020 1200 0000",
         s: "1 10 A# B# 1121 0,0,0,3",
         f: "1 11 AA AB 1201 0,0,-,3",
         c: "1 11 AA BA 1121 0,0,0,3",
@@ -134,6 +166,7 @@ const ERRORS: [Errors; 14] = [
     Errors {
         name: "short fragments inside a long one",
         fragments: &["AAAA", "-B--", "--B-", "-AB-"],
+        conflict_counts: "0111 1001 1000 1100",
         s: "1 1101 AA#A -B#- 1211 0,0,2,0",
         f: "1 1111 AAAA -BB- 1220 0,0,0,-",
         c: "1 1111 AAAA -AB- 1122 0,0,0,0",
@@ -143,6 +176,7 @@ const ERRORS: [Errors; 14] = [
     Errors {
         name: "a column that costs less as all A",
         fragments: &["AA", "AA", "AB", "BA", "BA"],
+        conflict_counts: "00111 00111 11022 11200 11200",
         s: "1 10 A# B# 11122 0,0,0,0,0",
         f: "1 11 AA BA 11022 0,0,-,0,0",
         c: "1 11 AA BA 11122 0,0,0,0,0",
@@ -154,6 +188,7 @@ const ERRORS: [Errors; 14] = [
     Errors {
         name: "two blocks that one fragment joins",
         fragments: &["AB--", "BA--", "AAAA", "--AB", "--BA"],
+        conflict_counts: "02100 20100 11011 00102 00120",
         s: "2 1010 A#A# B#B# 12112 0,0,0,0,0",
         f: "1 1111 ABAB BABA 12012 0,0,-,3,3",
         c: "2 1111 AAAA BABA 12112 0,0,0,0,0",
@@ -163,6 +198,7 @@ const ERRORS: [Errors; 14] = [
     Errors {
         name: "two blocks with an error each",
         fragments: &["AA--", "AB--", "BA--", "--AA", "--AB", "--BA"],
+        conflict_counts: "011000 102000 120000 000011 000102 000120",
         s: "2 1010 A#A# B#B# 112112 0,0,0,3,3,3",
         f: "2 1111 AAAA ABAB 120120 0,0,-,3,3,-",
         c: "2 1111 AAAA BABA 112112 0,0,0,3,3,3",
@@ -177,6 +213,7 @@ fn tables_with_errors() {
         let given = Fixture::of(row.fragments);
         let (s, f) = (Expected::listed(row.s), Expected::listed(row.f));
         let c = Expected::corrected(row.c, row.corrected);
-        trials.run_each(row.name, &given, &Each::of_errors(&given, s, f, c));
+        let counted = Expected::counted(row.conflict_counts);
+        trials.run_each(row.name, &given, &Each::of_errors(&given, counted, [s, f, c]));
     }
 }

@@ -5,7 +5,8 @@ use std::fmt::Debug;
 use std::panic::catch_unwind;
 
 use haplotypes::{
-    check, find, least_corrections, least_fragment_removal, least_snp_removal, pack, unpack, Outcome, RECORD, WORK,
+    check, conflict_counts, find, least_corrections, least_fragment_removal, least_snp_removal, pack, unpack, Outcome,
+    RECORD, WORK,
 };
 
 use crate::expected::{Each, Expected};
@@ -26,6 +27,7 @@ pub enum Service {
     Unpack,
     Pack,
     Check,
+    ConflictCounts,
     S,
     F,
     C,
@@ -39,6 +41,7 @@ impl Service {
             Unpack => "unpack",
             Pack => "pack",
             Check => "check",
+            ConflictCounts => "conflict_counts",
             S => "S",
             F => "F",
             C => "C",
@@ -47,9 +50,9 @@ impl Service {
 }
 
 /// Every service that can refuse: all but find.
-pub const SERVICES: [Service; 6] = [Unpack, Pack, Check, S, F, C];
+pub const SERVICES: [Service; 7] = [Unpack, Pack, Check, ConflictCounts, S, F, C];
 /// Those that are given a table, which pack writes.
-pub const OF_TABLES: [Service; 5] = [Unpack, Check, S, F, C];
+pub const OF_TABLES: [Service; 6] = [Unpack, Check, ConflictCounts, S, F, C];
 pub const WITH_WORK: [Service; 3] = [S, F, C];
 
 /// The lengths of the buffers that are lent. A service takes only its own.
@@ -60,12 +63,13 @@ pub struct Sizes {
     pub work: usize,
     pub answer: usize,
     pub table: usize,
+    pub counts: usize,
 }
 
 impl Sizes {
-    /// The lengths that paper 01 asks for.
+    /// The lengths that the papers ask for.
     pub fn exact(n: usize, m: usize) -> Sizes {
-        Sizes { cells: m * n, tags: m, work: 32_768, answer: 3 * n + 2 * m, table: 32 * m }
+        Sizes { cells: m * n, tags: m, work: 32_768, answer: 3 * n + 2 * m, table: 32 * m, counts: m * m }
     }
 
     pub fn of(given: &Fixture) -> Sizes {
@@ -141,6 +145,7 @@ fn call(service: Service, n: usize, given: &Buffers, lent: &mut Buffers) -> Outc
         Unpack => unpack(n, table, lent.cells.lend(), lent.tags.lend()),
         Pack => pack(n, given.cells.part(), given.tags.part(), lent.table.lend()),
         Check => check(n, table, lent.answer.lend()),
+        ConflictCounts => conflict_counts(n, table, lent.counts.lend()),
         S => least_snp_removal(n, table, lent.work.lend(), lent.answer.lend()),
         F => least_fragment_removal(n, table, lent.work.lend(), lent.answer.lend()),
         C => least_corrections(n, table, lent.work.lend(), lent.answer.lend(), lent.table.lend()),
@@ -154,6 +159,7 @@ struct Buffers {
     work: Guarded<u16>,
     answer: Guarded<u8>,
     table: Guarded<u8>,
+    counts: Guarded<u8>,
 }
 
 impl Buffers {
@@ -164,6 +170,7 @@ impl Buffers {
             work: Guarded::dirty(sizes.work, dirt),
             answer: Guarded::dirty(sizes.answer, dirt),
             table: Guarded::dirty(sizes.table, dirt),
+            counts: Guarded::dirty(sizes.counts, dirt),
         }
     }
 
@@ -184,6 +191,7 @@ impl Buffers {
         self.work.compare(&format!("{row}: work"), zero.as_deref());
         self.answer.compare(&format!("{row}: answer"), expected.answer.as_deref());
         self.table.compare(&format!("{row}: table"), expected.table.as_deref());
+        self.counts.compare(&format!("{row}: counts"), expected.counts.as_deref());
     }
 }
 

@@ -35,7 +35,7 @@ fn up_to_8_calls_in_a_column() {
     for (name, groups) in SHALLOW {
         let fragments = fragments(groups);
         let given = Fixture::of(&fragments);
-        trials.run_each(name, &given, &Each::of_error_free(&given, &fields(&fragments)));
+        trials.run_each(name, &given, &Each::of_conflict_free(&given, &fields(&fragments)));
     }
 }
 
@@ -55,7 +55,7 @@ fn over_8_calls_in_a_column() {
     for ((name, groups), column) in DEEP {
         let fragments = fragments(groups);
         let given = Fixture::of(&fragments);
-        trials.run_each(name, &given, &Each::of_error_free(&given, &fields(&fragments)).too_deep(column));
+        trials.run_each(name, &given, &Each::of_conflict_free(&given, &fields(&fragments)).too_deep(column));
     }
 }
 
@@ -64,7 +64,7 @@ fn the_last_column_is_too_deep() {
     let mut trials = Trials::default();
     let fragments = vec![lone('A', 127, 128); 9];
     let given = Fixture::of(&fragments);
-    let expected = Each::of_error_free(&given, &fields(&fragments)).too_deep(127);
+    let expected = Each::of_conflict_free(&given, &fields(&fragments)).too_deep(127);
     trials.run_each("9 calls in column 127", &given, &expected);
 }
 
@@ -90,6 +90,7 @@ fn records_come_before_depths() {
 fn mixed_columns_over_8_calls() {
     let mut trials = Trials::default();
     let given = Fixture::of(&["A", "B", "A", "B", "A", "B", "A", "B", "A"]);
-    let expected = Each::of_error_free(&given, "1 A B 121212121 0,0,0,0,0,0,0,0,0").too_deep(0);
+    let counted = Expected::counted_by(9, |i, j| (i + j) % 2);
+    let expected = Each::of_error_free(&given, counted, "1 A B 121212121 0,0,0,0,0,0,0,0,0").too_deep(0);
     trials.run_each("A and B by turns", &given, &expected);
 }

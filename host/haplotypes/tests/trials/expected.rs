@@ -3,7 +3,7 @@
 use haplotypes::Outcome::{self, Accepted, Refused};
 
 use crate::calls::Service;
-use crate::fixtures::{answer, Fixture};
+use crate::fixtures::{answer, counts, Fixture};
 
 /// Of one call. A buffer without numbers here is left as it was. The work is not here: an answer leaves it all zero.
 #[derive(Clone)]
@@ -13,11 +13,12 @@ pub struct Expected {
     pub tags: Option<Vec<u32>>,
     pub answer: Option<Vec<u8>>,
     pub table: Option<Vec<u8>>,
+    pub counts: Option<Vec<u8>>,
 }
 
 impl Expected {
     pub fn untouched(outcome: Outcome) -> Expected {
-        Expected { outcome, cells: None, tags: None, answer: None, table: None }
+        Expected { outcome, cells: None, tags: None, answer: None, table: None, counts: None }
     }
 
     pub fn refused(number: u8, place: usize) -> Expected {
@@ -31,6 +32,18 @@ impl Expected {
 
     pub fn packed(given: &Fixture) -> Expected {
         Expected { table: Some(given.table.clone()), ..Expected::untouched(Accepted(given.m())) }
+    }
+
+    /// Conflict_counts' numbers, a word of digits to a fragment: `01 10`.
+    pub fn counted(rows: &str) -> Expected {
+        let m = if rows == "." { 0 } else { rows.split(' ').count() };
+        Expected { counts: Some(counts(rows)), ..Expected::untouched(Accepted(m)) }
+    }
+
+    /// The same of m fragments by an argument: the number of two of them.
+    pub fn counted_by(m: usize, count: impl Fn(usize, usize) -> usize) -> Expected {
+        let number = |at: usize| count(at / m, at % m) as u8;
+        Expected { counts: Some((0..m * m).map(number).collect()), ..Expected::untouched(Accepted(m)) }
     }
 
     /// A line as the listing has it: the count, and the fields of the answer.
@@ -51,23 +64,29 @@ pub struct Each {
     unpack: Expected,
     pack: Expected,
     check: Expected,
+    conflict_counts: Expected,
     s: Expected,
     f: Expected,
     c: Expected,
 }
 
 impl Each {
-    /// There is nothing to change in an error-free table, so the answers of check, S, F and C are one.
-    pub fn of_error_free(given: &Fixture, fields: &str) -> Each {
-        let listed = Expected::listed(&format!("0 {fields}"));
-        let c = Expected { table: Some(given.table.clone()), ..listed.clone() };
-        Each { check: listed.clone(), ..Each::of_errors(given, listed.clone(), listed, c) }
+    /// No two fragments conflict, so the table is error-free too.
+    pub fn of_conflict_free(given: &Fixture, fields: &str) -> Each {
+        Each::of_error_free(given, Expected::counted_by(given.m(), |_, _| 0), fields)
     }
 
-    /// Check's no leaves the answer; unpack and pack do not look for errors.
-    pub fn of_errors(given: &Fixture, s: Expected, f: Expected, c: Expected) -> Each {
+    /// There is nothing to change in an error-free table, so the answers of check, S, F and C are one.
+    pub fn of_error_free(given: &Fixture, conflict_counts: Expected, fields: &str) -> Each {
+        let listed = Expected::listed(&format!("0 {fields}"));
+        let c = Expected { table: Some(given.table.clone()), ..listed.clone() };
+        Each { check: listed.clone(), ..Each::of_errors(given, conflict_counts, [listed.clone(), listed, c]) }
+    }
+
+    /// Of S, F and C in this order. Check's no leaves the answer; unpack and pack do not look for errors.
+    pub fn of_errors(given: &Fixture, conflict_counts: Expected, [s, f, c]: [Expected; 3]) -> Each {
         let (unpack, pack) = (Expected::unpacked(given), Expected::packed(given));
-        Each { unpack, pack, check: Expected::untouched(Accepted(1)), s, f, c }
+        Each { unpack, pack, check: Expected::untouched(Accepted(1)), conflict_counts, s, f, c }
     }
 
     /// C refuses the column, and no other service does.
@@ -81,6 +100,7 @@ impl Each {
             Service::Unpack => &self.unpack,
             Service::Pack => &self.pack,
             Service::Check => &self.check,
+            Service::ConflictCounts => &self.conflict_counts,
             Service::S => &self.s,
             Service::F => &self.f,
             Service::C => &self.c,

@@ -68,6 +68,13 @@ pub fn answer(line: &str) -> Vec<u8> {
     [digits(keep), codes(haplotype1), codes(haplotype2), digits(sides), block_numbers(blocks)].concat()
 }
 
+/// Counts of conflicts from a word of digits for each fragment, and from a full stop where there is none.
+pub fn counts(rows: &str) -> Vec<u8> {
+    let words: Vec<&str> = rows.split(' ').filter(|&word| word != ".").collect();
+    assert!(words.iter().all(|word| word.len() == words.len()), "not as many digits as words: {rows}");
+    digits(&words.concat())
+}
+
 /// A record as the paper's table of its bytes says. Cells past the 96th have no place in it.
 fn record(tag: u32, row: &[u8]) -> [u8; RECORD] {
     let mut bytes = [0; RECORD];
@@ -120,6 +127,13 @@ fn cells_stand_four_to_a_byte_from_the_low_bits() {
     let last = Fixture::of(&[format!("{}{}", "-".repeat(260), "A".repeat(CELLS))]);
     assert_eq!(last.table[4..8], [4, 1, 96, 0]); // 260 is 4 + 256
     assert_eq!(last.table[8..32], [0b01_01_01_01; 24]);
+}
+
+#[test]
+fn words_are_the_rows_of_counts() {
+    assert_eq!(counts("011 102 120"), [0, 1, 1, 1, 0, 2, 1, 2, 0]);
+    assert_eq!(counts("0"), [0]);
+    assert_eq!(counts("."), []);
 }
 
 #[test]

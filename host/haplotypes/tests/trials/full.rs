@@ -16,10 +16,11 @@ fn steps(second: &str) -> Vec<String> {
     (0..128).map(|i| "-".repeat(i / 8 * 8) + step[i % 8] + &"-".repeat(120 - i / 8 * 8)).collect()
 }
 
-/// In each step fragments 0, 1 and 4 conflict with each other, so each step needs a change. S: without another column
-/// than the third they still do. F: any fragment but 1 has an equal one, which would still do. C: a side with some of
-/// the first four and some of the last costs 7 or more, 1 on each column but the third; apart, they cost 1, on the
-/// third.
+/// In each step a fragment has no B, one on the third column, or 8 of them: two fragments conflict on as many columns
+/// as these numbers differ by. So fragments 0, 1 and 4 conflict with each other, and each step needs a change. S:
+/// without another column than the third they still do. F: any fragment but 1 has an equal one, which would still do.
+/// C: a side with some of the first four and some of the last costs 7 or more, 1 on each column but the third; apart,
+/// they cost 1, on the third.
 #[test]
 fn steps_of_depth_8() {
     let mut trials = Trials::default();
@@ -33,14 +34,20 @@ fn steps_of_depth_8() {
     let f = format!("16 {kept} {a} {b} {} {left}", "10112222".repeat(16));
     let c = format!("16 {kept} {a} {b} {sides} {blocks}");
     let c = Expected::corrected(&c, &steps("AAAAAAAA"));
-    let expected = Each::of_errors(&given, Expected::listed(&s), Expected::listed(&f), c);
+    let counted = |bs: [usize; 8]| {
+        Expected::counted_by(128, |i, j| if i / 8 == j / 8 { bs[i % 8].abs_diff(bs[j % 8]) } else { 0 })
+    };
+    let answers = [Expected::listed(&s), Expected::listed(&f), c];
+    let expected = Each::of_errors(&given, counted([0, 1, 0, 0, 8, 8, 8, 8]), answers);
     trials.run_each("16 steps with an error each", &given, &expected);
     let right = Fixture::of(&steps("AAAAAAAA"));
     let fields = format!("{kept} {a} {b} {sides} {blocks}");
-    trials.run_each("16 steps without errors", &right, &Each::of_error_free(&right, &fields));
+    let expected = Each::of_error_free(&right, counted([0, 0, 0, 0, 8, 8, 8, 8]), &fields);
+    trials.run_each("16 steps without errors", &right, &expected);
 }
 
-/// Fragment i spells the bits of i, B for 1, lowest first: every two fragments conflict, so F keeps the first two.
+/// Fragment i spells the bits of i, B for 1, lowest first: two fragments conflict where their bits differ. Every two
+/// do, so F keeps the first two.
 /// On every two columns there are AA, AB, BA and BB, so S keeps the first column.
 #[test]
 fn every_word_of_7_letters() {
@@ -52,7 +59,9 @@ fn every_word_of_7_letters() {
     let left = joined(128, |i| (i < 2).then_some(0));
     let f = format!("126 1111111 AAAAAAA BAAAAAA 12{} {left}", "0".repeat(126));
     let c = Expected::refused(12, 0);
-    trials.run_each("128 words", &given, &Each::of_errors(&given, Expected::listed(&s), Expected::listed(&f), c));
+    let counted = Expected::counted_by(128, |i, j| (i ^ j).count_ones() as usize);
+    let expected = Each::of_errors(&given, counted, [Expected::listed(&s), Expected::listed(&f), c]);
+    trials.run_each("128 words", &given, &expected);
 }
 
 /// A pattern of 8 rows: B throughout in row 0, and in row b > 0 where bit b - 1 of the column is 1.
@@ -88,7 +97,8 @@ fn snps_of_which_125_must_go() {
 
 /// 128 fragments of 96 columns, from 0 or 32 on, all A and all B by turns; but fragment 5, of Bs, has an A on column
 /// 60, which every fragment calls. So it conflicts with the Bs on column 60 and with the As elsewhere, and these with
-/// each other: one column will do only if it is 60, and one fragment only if it is 5.
+/// each other: one column will do only if it is 60, and one fragment only if it is 5. Fragments of one start share 96
+/// columns, the others 64.
 #[test]
 fn long_fragments_with_one_error() {
     let mut trials = Trials::default();
@@ -106,7 +116,15 @@ fn long_fragments_with_one_error() {
     let left = joined(128, |i| (i != 5).then_some(0));
     let f = format!("1 {} {} {} {sides} {left}", "1".repeat(128), "A".repeat(128), "B".repeat(128));
     let c = Expected::refused(12, 0);
-    trials.run_each("one error", &given, &Each::of_errors(&given, Expected::listed(&s), Expected::listed(&f), c));
+    let shared = |i: usize, j: usize| if i / 2 % 2 == j / 2 % 2 { 96 } else { 64 };
+    let counted = Expected::counted_by(128, |i, j| match (i % 2 == j % 2, (i == 5) == (j == 5)) {
+        (true, true) => 0,
+        (true, false) => 1,
+        (false, true) => shared(i, j),
+        (false, false) => shared(i, j) - 1,
+    });
+    let expected = Each::of_errors(&given, counted, [Expected::listed(&s), Expected::listed(&f), c]);
+    trials.run_each("one error", &given, &expected);
 }
 
 #[test]
@@ -118,6 +136,6 @@ fn equal_long_fragments() {
         let blocks = joined(128, |_| Some(0));
         let fields = format!("{} {letters} {} {} {blocks}", "1".repeat(96), "-".repeat(96), "1".repeat(128));
         let name = format!("128 fragments of 96 {letter}s");
-        trials.run_each(&name, &given, &Each::of_error_free(&given, &fields).too_deep(0));
+        trials.run_each(&name, &given, &Each::of_conflict_free(&given, &fields).too_deep(0));
     }
 }

@@ -1,9 +1,10 @@
-//! Trials of the seven services, as tables: a row has a name, the input in letters, and the outcome and the bytes that
+//! Trials of the eight services, as tables: a row has a name, the input in letters, and the outcome and the bytes that
 //! are expected. These are written out from the definitions of paper 01, by hand or by an argument that stands beside
 //! the table, and never taken from a run.
 
 mod answers;
 mod calls;
+mod counts;
 mod depths;
 mod expected;
 mod faults;

@@ -28,8 +28,8 @@ fn sizes_come_before_records() {
         given.table.extend(ragged.then_some(0));
         given.cells.extend(ragged.then_some(0));
         let exact = Sizes::of(&given);
-        let (cells, tags) = (exact.cells + more, exact.tags + more);
-        let sizes = Sizes { cells, tags, work, answer: exact.answer + more, table: exact.table + more };
+        let (cells, tags, counts) = (exact.cells + more, exact.tags + more, exact.counts + more);
+        let sizes = Sizes { cells, tags, work, answer: exact.answer + more, table: exact.table + more, counts };
         for service in SERVICES {
             let number = if WITH_WORK.contains(&service) { number } else { number_without_work };
             trials.run_sized(name, service, &given, sizes, &Expected::refused(number, 0));
@@ -41,7 +41,7 @@ fn sizes_come_before_records() {
 #[test]
 fn sizes_by_pairs() {
     let mut trials = Trials::default();
-    let empty = Sizes { cells: 0, tags: 0, work: 0, answer: 0, table: 0 };
+    let empty = Sizes { cells: 0, tags: 0, work: 0, answer: 0, table: 0, counts: 0 };
     let given = Fixture::of(&["AA-", "BAA", "-BB"]);
     let mut ragged = given.clone().in_columns(129);
     ragged.table.truncate(31);
@@ -65,7 +65,7 @@ fn outputs_come_before_records() {
     let exact = Sizes::of(&given);
     for service in OF_TABLES {
         trials.run("record 1 out of frame", service, &given, &Expected::refused(4, 1));
-        let sizes = Sizes { cells: 0, answer: exact.answer - 1, ..exact };
+        let sizes = Sizes { cells: 0, answer: exact.answer - 1, counts: exact.counts - 1, ..exact };
         trials.run_sized("and a wrong output", service, &given, sizes, &Expected::refused(11, 0));
     }
     let sizes = Sizes { table: 95, ..exact };
@@ -109,7 +109,7 @@ fn rules_of_a_record_with_a_tag_twice() {
         trials.run("9", service, &twice, &Expected::refused(9, 1));
     }
     let given = Fixture::tagged(&["A----", "AAAAA", "A----"], &[10, 11, 12]);
-    trials.run_each("none", &given, &Each::of_error_free(&given, "11111 AAAAA ----- 111 0,0,0"));
+    trials.run_each("none", &given, &Each::of_conflict_free(&given, "11111 AAAAA ----- 111 0,0,0"));
 }
 
 /// Calls at both ends of 128 columns reach over more than 96, and are gapped. As a record they are out of frame,

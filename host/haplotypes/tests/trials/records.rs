@@ -30,7 +30,7 @@ fn records_in_bytes() {
         given.table = [bytes, &vec![0; 32 - bytes.len()]].concat();
         let sides = format!("{} {} {} 1 0", "1".repeat(given.n), letters, "-".repeat(given.n));
         let fields = if given.n == 0 { ". . . 1 0".to_owned() } else { sides };
-        trials.run_each(&format!("{letters} alone"), &given, &Each::of_error_free(&given, &fields));
+        trials.run_each(&format!("{letters} alone"), &given, &Each::of_conflict_free(&given, &fields));
     }
 }
 

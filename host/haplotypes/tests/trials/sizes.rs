@@ -25,7 +25,7 @@ fn up_to_128_fragments_and_columns() {
     let mut trials = Trials::default();
     for (m, n) in [(1, 1), (1, 128), (127, 127), (127, 128), (128, 128)] {
         let given = diagonal(m, n);
-        let expected = Each::of_error_free(&given, &diagonal_fields(m, n));
+        let expected = Each::of_conflict_free(&given, &diagonal_fields(m, n));
         trials.run_each(&format!("{m} fragments, {n} columns"), &given, &expected);
     }
 }
@@ -36,7 +36,7 @@ fn no_fragments() {
     for n in [1, 3, 128] {
         let given = Fixture::of(&[""; 0]).in_columns(n);
         let fields = format!("{} {} {} . .", "1".repeat(n), "-".repeat(n), "-".repeat(n));
-        trials.run_each(&format!("no fragments, {n} columns"), &given, &Each::of_error_free(&given, &fields));
+        trials.run_each(&format!("no fragments, {n} columns"), &given, &Each::of_conflict_free(&given, &fields));
     }
 }
 
@@ -114,11 +114,12 @@ fn cells_that_are_not_m_times_n() {
 /// The outputs, each with the service that fills it.
 type Output = (Service, &'static str, fn(&mut Sizes) -> &mut usize);
 
-const OUTPUTS: [Output; 8] = [
+const OUTPUTS: [Output; 9] = [
     (Unpack, "cells", |sizes| &mut sizes.cells),
     (Unpack, "tags", |sizes| &mut sizes.tags),
     (Pack, "table", |sizes| &mut sizes.table),
     (Check, "answer", |sizes| &mut sizes.answer),
+    (ConflictCounts, "counts", |sizes| &mut sizes.counts),
     (S, "answer", |sizes| &mut sizes.answer),
     (F, "answer", |sizes| &mut sizes.answer),
     (C, "answer", |sizes| &mut sizes.answer),
@@ -190,16 +191,16 @@ fn short_work() {
 fn enough_work() {
     let mut trials = Trials::default();
     let printed = Fixture::of(&PRINTED);
-    let expected = Each::of_errors(
-        &printed,
+    let answers = [
         Expected::listed("1 101 A#B B#A 121 0,0,0"),
         Expected::listed("1 111 AA- BAA 120 0,0,-"),
         Expected::corrected("1 111 AAA -BB 112 0,0,0", &["AA-", "AAA", "-BB"]),
-    );
+    ];
+    let expected = Each::of_errors(&printed, Expected::counted("011 102 120"), answers);
     let full = diagonal(128, 128);
-    let expected_of_full = Each::of_error_free(&full, &diagonal_fields(128, 128));
+    let expected_of_full = Each::of_conflict_free(&full, &diagonal_fields(128, 128));
     let nothing = Fixture::of(&[""; 0]);
-    let expected_of_nothing = Each::of_error_free(&nothing, ". . . . .");
+    let expected_of_nothing = Each::of_conflict_free(&nothing, ". . . . .");
     let tables =
         [("printed", printed, expected), ("full", full, expected_of_full), ("nothing", nothing, expected_of_nothing)];
     for (table, given, expected) in &tables {

@@ -17,7 +17,7 @@ fn spans_up_to_96() {
         let given = Fixture::of(&[&letters]);
         let fields = format!("{} {letters} {} 1 0", "1".repeat(n), "-".repeat(n));
         let name = format!("span {span} from {start} in {n} columns");
-        trials.run_each(&name, &given, &Each::of_error_free(&given, &fields));
+        trials.run_each(&name, &given, &Each::of_conflict_free(&given, &fields));
     }
 }
 
@@ -45,7 +45,7 @@ fn spans_to_the_last_column() {
         let letters = run_of_as(start, span, n);
         let given = Fixture::of(&[&letters]);
         let fields = format!("{} {letters} {} 1 0", "1".repeat(n), "-".repeat(n));
-        trials.run_each(&format!("from {start} to {n}"), &given, &Each::of_error_free(&given, &fields));
+        trials.run_each(&format!("from {start} to {n}"), &given, &Each::of_conflict_free(&given, &fields));
         let holes = Fixture::of(&["-".repeat(n), letters]);
         for service in OF_TABLES {
             let name = format!("from {start} to {n}, a column fewer");
