@@ -79,7 +79,7 @@ fn conflict_pairs(matrix: &Matrix, keep: &[bool], kept: &[bool]) -> Vec<(usize, 
     pairs.filter(|&(i, j)| conflict(i, j)).collect()
 }
 
-fn conflict_on(one: &[u8], other: &[u8], c: usize) -> bool {
+pub fn conflict_on(one: &[u8], other: &[u8], c: usize) -> bool {
     matches!((one[c], other[c]), (A, B) | (B, A))
 }
 

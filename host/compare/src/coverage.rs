@@ -8,7 +8,7 @@
 
 use crate::runner::{sum, Tally};
 use crate::seen::{Seen, Verdict};
-use crate::service::Service::{self, Check, Corrections, Find, Fragments, Pack, Snps, Unpack};
+use crate::service::Service::{self, Check, ConflictCounts, Corrections, Find, Fragments, Pack, Snps, Unpack};
 use Verdict::{Absent, Accepted, First, No, Only, Refused, Yes};
 
 /// A kind's tables, and the least of them with each verdict: yes, no, refused by C alone, refused by rule 1 to 9.
@@ -56,8 +56,16 @@ const fn kind(name: &'static str, tables: usize, [yes, no, too_deep]: [usize; 3]
 }
 
 /// The calls of each service for each table, right and wrong ones.
-const CALLS: [(Service, usize); 7] =
-    [(Unpack, 16), (Pack, 16), (Find, 6), (Check, 12), (Snps, 15), (Fragments, 15), (Corrections, 19)];
+const CALLS: [(Service, usize); 8] = [
+    (Unpack, 16),
+    (Pack, 16),
+    (Find, 6),
+    (Check, 12),
+    (ConflictCounts, 12),
+    (Snps, 15),
+    (Fragments, 15),
+    (Corrections, 19),
+];
 
 /// What the calls of a service must have returned, over all kinds: the least of each acceptance and of refusals 1 to 12.
 struct Replies {
@@ -66,11 +74,12 @@ struct Replies {
     refused: [usize; 12],
 }
 
-const REPLIES: [Replies; 7] = [
+const REPLIES: [Replies; 8] = [
     replies(Unpack, &[(Accepted, 16000)], [3100, 1500, 16000, 6200, 850, 700, 500, 390, 370, 0, 43000, 0]),
     replies(Pack, &[(Accepted, 7800)], [44000, 480, 12000, 60, 0, 700, 0, 320, 700, 0, 20000, 0]),
     replies(Find, &[(Only, 11000), (First, 5500), (Absent, 16000)], [0; 12]),
     replies(Check, &[(Yes, 7500), (No, 7500)], [2200, 1100, 14000, 6200, 850, 680, 500, 380, 370, 0, 24000, 0]),
+    replies(ConflictCounts, &[(Accepted, 15000)], [2200, 1100, 14000, 6200, 850, 680, 500, 380, 370, 0, 24000, 0]),
     replies(Snps, &[(Yes, 7500), (No, 7500)], [2900, 1450, 15500, 6200, 850, 680, 500, 380, 370, 17000, 21500, 0]),
     replies(Fragments, &[(Yes, 7500), (No, 7500)], [2900, 1450, 15500, 6200, 850, 680, 500, 380, 370, 17000, 21500, 0]),
     replies(
@@ -84,11 +93,14 @@ const fn replies(service: Service, accepted: &'static [(Verdict, usize)], refuse
     Replies { service, accepted, refused }
 }
 
-/// What else the calls must have seen, over all kinds.
-const CALLED: [(Seen, usize); 7] = [
+/// What else the calls must have seen, over all kinds. Of conflicts it is the tables that count, as each goes through a
+/// call with its own columns and exact lengths.
+const CALLED: [(Seen, usize); 9] = [
     (Seen::LongWork(Snps), 11500),
     (Seen::LongWork(Fragments), 11500),
     (Seen::LongWork(Corrections), 10000),
+    (Seen::CountOver64, 60),
+    (Seen::ConflictsAcross64, 170),
     (Seen::FoundInRagged, 700),
     (Seen::FoundPastMost, 230),
     (Seen::TableRoundTrip, 4000),

@@ -14,6 +14,7 @@ pub struct Buffers {
     pub work: Guarded<u16>,
     pub answer: Guarded<u8>,
     pub corrected: Guarded<u8>,
+    pub counts: Guarded<u8>,
 }
 
 pub struct Call {
@@ -36,12 +37,13 @@ pub type Library<'a> = &'a (dyn Fn(&mut Call) -> Returned + Sync);
 /// The library that is linked.
 pub fn proved(call: &mut Call) -> Returned {
     let n = call.number;
-    let Buffers { table, cells, tags, work, answer, corrected } = &mut call.lent;
+    let Buffers { table, cells, tags, work, answer, corrected, counts } = &mut call.lent;
     Returned::Outcome(match call.service {
         Service::Find => return Returned::Part(found(n as u32, table.lent())),
         Service::Unpack => haplotypes::unpack(n, table.lent(), cells.lent_mut(), tags.lent_mut()),
         Service::Pack => haplotypes::pack(n, cells.lent(), tags.lent(), table.lent_mut()),
         Service::Check => haplotypes::check(n, table.lent(), answer.lent_mut()),
+        Service::ConflictCounts => haplotypes::conflict_counts(n, table.lent(), counts.lent_mut()),
         Service::Snps => haplotypes::least_snp_removal(n, table.lent(), work.lent_mut(), answer.lent_mut()),
         Service::Fragments => haplotypes::least_fragment_removal(n, table.lent(), work.lent_mut(), answer.lent_mut()),
         Service::Corrections => {
@@ -67,6 +69,7 @@ impl Buffers {
             (Buffer::Work, self.work.difference(&found.work)),
             (Buffer::Answer, self.answer.difference(&found.answer)),
             (Buffer::Corrected, self.corrected.difference(&found.corrected)),
+            (Buffer::Counts, self.counts.difference(&found.counts)),
         ];
         differences
             .into_iter()
@@ -81,6 +84,7 @@ impl Buffers {
             Buffer::Work => &self.work,
             Buffer::Answer => &self.answer,
             Buffer::Corrected => &self.corrected,
+            Buffer::Counts => &self.counts,
         }
     }
 
@@ -92,6 +96,7 @@ impl Buffers {
             Buffer::Work => &mut self.work,
             Buffer::Answer => &mut self.answer,
             Buffer::Corrected => &mut self.corrected,
+            Buffer::Counts => &mut self.counts,
         }
     }
 

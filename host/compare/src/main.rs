@@ -9,6 +9,7 @@ mod answer;
 mod brute;
 mod calls;
 mod compare;
+mod counts;
 mod coverage;
 mod exact;
 mod expected;

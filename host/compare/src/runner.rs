@@ -130,6 +130,8 @@ fn print_tallies(tallies: &[Tally]) {
     Service::ALL.iter().for_each(|&service| println!("{}: {}", service.name(), returned(&all.counts, service)));
     let [tables, cells] = [Seen::TableRoundTrip, Seen::CellsRoundTrip].map(|seen| all.counts.of(seen));
     println!("round trips: tables {tables}, cells {cells}");
+    let [over, across] = [Seen::CountOver64, Seen::ConflictsAcross64].map(|seen| all.counts.of(seen));
+    println!("two fragments conflict on over 64 columns: tables {over}; on columns below 64 and from 64 on: {across}");
     let settled = methods::all().map(|method| format!("{} {}", method.name, all.counts.of(Seen::By(method.name))));
     println!("settled: {}", settled.collect::<Vec<_>>().join(", "));
 }

@@ -1,5 +1,6 @@
 //! What a run has seen, counted.
 
+use crate::counts;
 use crate::expected::Outcome;
 use crate::service::Service;
 use std::collections::BTreeMap;
@@ -11,6 +12,10 @@ pub enum Seen {
     Listed(Verdict),
     /// C's refusal, 12
     TooDeep,
+    /// a table with two fragments that conflict on over 64 columns
+    CountOver64,
+    /// a table with two fragments that conflict on columns below 64 and on columns from 64 on
+    ConflictsAcross64,
     /// a method that settled a service
     By(&'static str),
     Listing,
@@ -34,7 +39,7 @@ pub enum Verdict {
     /// error-free: check's yes, and nothing to remove or correct
     Yes,
     No,
-    /// by unpack or pack
+    /// by unpack, pack or conflict_counts
     Accepted,
     Refused(usize),
     /// what find hands back: the only record with the tag, the first of several, or none
@@ -70,6 +75,8 @@ impl Counts {
         self.add(Seen::Listed(verdict(outcome)), 1);
         if let Outcome::Accepted(table) = outcome {
             self.add(Seen::TooDeep, table.answers.corrections.is_err() as usize);
+            self.add(Seen::CountOver64, counts::over_64(&table.matrix) as usize);
+            self.add(Seen::ConflictsAcross64, counts::across_64(&table.matrix) as usize);
             table.by.iter().for_each(|name| self.add(Seen::By(name), 1));
         }
     }

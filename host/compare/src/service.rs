@@ -1,8 +1,8 @@
-//! The seven services, and the buffers that each is lent.
+//! The eight services, and the buffers that each is lent.
 
 use crate::record::RECORD;
 use crate::rules::LEAST_WORK;
-use Buffer::{Answer, Cells, Corrected, Table, Tags, Work};
+use Buffer::{Answer, Cells, Corrected, Counts, Table, Tags, Work};
 
 #[derive(Clone, Copy, PartialEq, Eq, PartialOrd, Ord, Debug)]
 pub enum Service {
@@ -10,6 +10,7 @@ pub enum Service {
     Pack,
     Find,
     Check,
+    ConflictCounts,
     Snps,
     Fragments,
     Corrections,
@@ -23,14 +24,16 @@ pub enum Buffer {
     Work,
     Answer,
     Corrected,
+    Counts,
 }
 
 impl Service {
-    pub const ALL: [Service; 7] = [
+    pub const ALL: [Service; 8] = [
         Service::Unpack,
         Service::Pack,
         Service::Find,
         Service::Check,
+        Service::ConflictCounts,
         Service::Snps,
         Service::Fragments,
         Service::Corrections,
@@ -42,6 +45,7 @@ impl Service {
             Service::Pack => "pack",
             Service::Find => "find",
             Service::Check => "check",
+            Service::ConflictCounts => "conflict_counts",
             Service::Snps => "S",
             Service::Fragments => "F",
             Service::Corrections => "C",
@@ -61,6 +65,7 @@ impl Service {
             Service::Unpack => &[Cells, Tags],
             Service::Pack => &[Table],
             Service::Find => &[],
+            Service::ConflictCounts => &[Counts],
             Service::Check | Service::Snps | Service::Fragments => &[Answer],
             Service::Corrections => &[Answer, Corrected],
         }
@@ -78,8 +83,8 @@ impl Service {
 }
 
 impl Buffer {
-    pub const COUNT: usize = 6;
-    pub const ALL: [Buffer; Buffer::COUNT] = [Table, Cells, Tags, Work, Answer, Corrected];
+    pub const COUNT: usize = 7;
+    pub const ALL: [Buffer; Buffer::COUNT] = [Table, Cells, Tags, Work, Answer, Corrected, Counts];
 
     pub fn name(self) -> &'static str {
         match self {
@@ -89,6 +94,7 @@ impl Buffer {
             Work => "work",
             Answer => "answer",
             Corrected => "corrected table",
+            Counts => "counts",
         }
     }
 
@@ -100,6 +106,7 @@ impl Buffer {
             Tags => m,
             Work => LEAST_WORK,
             Answer => 3 * n + 2 * m,
+            Counts => m * m,
         }
     }
 }

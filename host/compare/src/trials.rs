@@ -1,11 +1,12 @@
-//! Paper 01's trials, for every method.
+//! Paper 01's trials, for every method, and the counts of conflicts.
 
 use crate::answer::Answers;
+use crate::counts::{across_64, conflict_counts, over_64};
 use crate::record::{called, column_count, places_of, record, Matrix, RECORD};
 use crate::rng::Rng;
 use crate::rules::{call_fault, pack_fault, table_fault, too_deep, Refusal};
 use crate::self_test::{printed_table, PRINTED_LISTING};
-use crate::service::Buffer::{Answer, Corrected, Work};
+use crate::service::Buffer::{Answer, Corrected, Counts, Work};
 use crate::{brute, generate, listing, methods};
 
 /// A table of fragments as the paper writes them, one letter to a column.
@@ -141,6 +142,44 @@ fn lengths_of_what_is_lent() {
     assert_eq!(fault(&[(Work, 32768), (Answer, 8), (Corrected, 31)]), refusal(11, 0));
     assert_eq!(call_fault(usize::MAX, &bytes, &[(Work, 0), (Answer, 8)]), refusal(3, 0));
     assert_eq!(call_fault(1, &bytes, &[(Work, 32768), (Answer, 5)]), refusal(4, 0));
+}
+
+#[test]
+fn length_of_counts() {
+    let bytes = table(&["ABA", "AAA"]);
+    let fault = |n: usize, length: usize| call_fault(n, &bytes, &[(Counts, length)]);
+    assert_eq!(fault(3, 4), None);
+    assert_eq!(fault(128, 4), None);
+    assert_eq!(fault(3, 3), refusal(11, 0));
+    assert_eq!(fault(3, 6), refusal(11, 0));
+    assert_eq!(fault(2, 5), refusal(11, 0));
+    assert_eq!(fault(2, 4), refusal(4, 0));
+    assert_eq!(fault(129, 4), refusal(3, 0));
+}
+
+#[test]
+fn conflicts_of_every_two() {
+    let counts = |fragments: &[&str]| conflict_counts(&answers(fragments).0);
+    assert_eq!(counts(&["AA-", "BAA", "-BB"]), [0, 1, 1, 1, 0, 2, 1, 2, 0]);
+    assert_eq!(counts(&["AA", "BB"]), [0, 2, 2, 0]);
+    assert_eq!(counts(&["AA", "AA"]), [0; 4]);
+    assert_eq!(counts(&["A-", "-B"]), [0; 4]);
+    assert_eq!(counts(&["AB", "--", "BB"]), [0, 0, 1, 0, 0, 0, 1, 0, 0]);
+    assert_eq!(counts(&[]), []);
+}
+
+#[test]
+fn conflicts_around_column_64() {
+    let bs_on = |bs: std::ops::Range<usize>| {
+        let row = (0..128).map(|c| 1 + bs.contains(&c) as u8).collect();
+        Matrix { n: 128, rows: vec![vec![1; 128], row] }
+    };
+    let found = |matrix: Matrix| (conflict_counts(&matrix)[1], over_64(&matrix), across_64(&matrix));
+    assert_eq!(found(bs_on(0..64)), (64, false, false));
+    assert_eq!(found(bs_on(64..128)), (64, false, false));
+    assert_eq!(found(bs_on(63..65)), (2, false, true));
+    assert_eq!(found(bs_on(32..96)), (64, false, true));
+    assert_eq!(found(bs_on(32..97)), (65, true, true));
 }
 
 #[test]

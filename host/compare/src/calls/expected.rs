@@ -2,6 +2,7 @@
 
 use crate::answer::Answer;
 use crate::brute;
+use crate::counts::conflict_counts;
 use crate::expected::{Accepted, Outcome as TableOutcome};
 use crate::library::{Buffers, Call, Returned};
 use crate::record::{called, places_of, record, set_cell, span, start, tag, whole_records, Matrix, RECORD};
@@ -35,6 +36,7 @@ pub fn of_call(call: &Call, table: &TableOutcome) -> Expected {
         (Service::Snps, _) => accepted(call, |after| least(n, &table.answers.snps, after)),
         (Service::Fragments, _) => accepted(call, |after| least(n, &table.answers.fragments, after)),
         (Service::Check, _) => accepted(call, |after| checked(n, &table.answers.check, after)),
+        (Service::ConflictCounts, _) => accepted(call, |after| counted(n, after)),
         _ => accepted(call, |after| unpacked(n, after)),
     }
 }
@@ -70,6 +72,12 @@ fn unpacked(n: usize, after: &mut Buffers) -> usize {
     after.cells.put(&Matrix::read(after.table.lent(), n).rows.concat());
     after.tags.put(&tags);
     tags.len()
+}
+
+fn counted(n: usize, after: &mut Buffers) -> usize {
+    let matrix = Matrix::read(after.table.lent(), n);
+    after.counts.put(&conflict_counts(&matrix));
+    matrix.m()
 }
 
 fn packed(n: usize, after: &mut Buffers) -> usize {

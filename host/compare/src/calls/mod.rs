@@ -27,8 +27,8 @@ pub struct Table<'a> {
 }
 
 /// The services that are called with a table and a column count.
-const ON_TABLES: [Service; 5] =
-    [Service::Unpack, Service::Check, Service::Snps, Service::Fragments, Service::Corrections];
+const ON_TABLES: [Service; 6] =
+    [Service::Unpack, Service::Check, Service::ConflictCounts, Service::Snps, Service::Fragments, Service::Corrections];
 
 /// Every service: right calls and wrong ones, and both round trips. Pack has cells of its own.
 pub fn all(library: Library, table: &Table, cells: &Cells, rng: &mut Rng) -> Result<Counts, String> {
@@ -72,9 +72,10 @@ fn compared(library: Library, mut call: Call, expected: Expected, counts: &mut C
 }
 
 fn verdict(service: Service, outcome: Outcome) -> Verdict {
+    let returns_m = matches!(service, Service::Unpack | Service::Pack | Service::ConflictCounts);
     match outcome {
         Outcome::Refused(number, _) => Verdict::Refused(number as usize),
-        Outcome::Accepted(_) if matches!(service, Service::Unpack | Service::Pack) => Verdict::Accepted,
+        Outcome::Accepted(_) if returns_m => Verdict::Accepted,
         Outcome::Accepted(0) => Verdict::Yes,
         Outcome::Accepted(_) => Verdict::No,
     }

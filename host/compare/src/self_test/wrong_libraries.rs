@@ -1,13 +1,15 @@
 //! Libraries that are wrong in one way each. The linked one makes the call, and what it returned or left is then spoiled:
-//! a count, a refusal, an element of each buffer or beside it, work left dirty, another part of the table.
+//! a count, a refusal, an element of each buffer or beside it, work left dirty, other counts of conflicts, another part of
+//! the table.
 
 use super::{must_differ, printed_table};
 use crate::agree;
 use crate::calls::{self, round_trips, Table};
+use crate::counts::conflicts;
 use crate::expected;
 use crate::generate::Cells;
 use crate::library::{proved, Buffers, Call, Library, Returned};
-use crate::record::{places_of, record, RECORD};
+use crate::record::{places_of, record, Matrix, CELLS, HOLE, RECORD};
 use crate::rng::Rng;
 use crate::rules::LEAST_WORK;
 use crate::service::{Buffer, Service};
@@ -30,15 +32,19 @@ pub fn noticed() -> Result<usize, String> {
     let mut all = wrong_outcomes();
     all.extend(Service::ALL.into_iter().flat_map(wrong_elements));
     all.extend(dirty_works());
+    all.extend(wrong_counts());
+    all.extend(counts_left());
+    all.extend(counts_of_refused());
     all.extend(wrong_parts());
     all.iter().try_for_each(must_be_noticed)?;
     Ok(all.len() + wrong_round_trips()?)
 }
 
-/// The calls of a run about two tables, one error-free and one not.
+/// The calls of a run about three tables: one error-free, one not, and one with conflicts on columns 32 to 127.
 fn compared(library: Library) -> Result<(), String> {
     let pair = [record(1, 0, &[1]), record(2, 0, &[2])].concat();
-    for bytes in [&pair, &printed_table()] {
+    let wide = [record(1, 32, &[1; CELLS]), record(2, 32, &[2; CELLS])].concat();
+    for bytes in [&pair, &printed_table(), &wide] {
         let outcome = &expected::outcome(bytes)?;
         calls::all(library, &Table { bytes, outcome }, &printed_cells(), &mut Rng::new(1))?;
     }
@@ -147,6 +153,71 @@ fn dirty_works() -> Vec<Wrong> {
     };
     let borrowing = Service::ALL.into_iter().filter(|service| service.borrows_work());
     borrowing.flat_map(|service| [dirty(service, 0), dirty(service, LEAST_WORK)]).collect()
+}
+
+/// Conflict_counts with the number 1 for any other but 0, with the columns that both call, with a fragment's calls against
+/// itself, and without the columns from 64 on or below 64.
+fn wrong_counts() -> Vec<Wrong> {
+    type Count = fn(&Matrix, usize, usize) -> usize;
+    let others: [Count; 5] = [
+        |matrix, i, j| conflicts_of(matrix, i, j).count().min(1),
+        |matrix, i, j| if i == j { 0 } else { called_by_both(matrix, i, j) },
+        |matrix, i, j| if i == j { called_by_both(matrix, i, i) } else { conflicts_of(matrix, i, j).count() },
+        |matrix, i, j| conflicts_of(matrix, i, j).filter(|&c| c < 64).count(),
+        |matrix, i, j| conflicts_of(matrix, i, j).filter(|&c| c >= 64).count(),
+    ];
+    let spoiled = |other: Count| {
+        Wrong::new(Service::ConflictCounts, move |call, returned, _| {
+            if !is_refusal(returned) {
+                let matrix = Matrix::read(call.lent.table.lent(), call.number);
+                let count = |at: usize| other(&matrix, at / matrix.m(), at % matrix.m()) as u8;
+                let counts: Vec<u8> = (0..matrix.m() * matrix.m()).map(count).collect();
+                call.lent.counts.put(&counts);
+            }
+        })
+        .in_buffer(Buffer::Counts)
+    };
+    others.map(spoiled).into()
+}
+
+fn conflicts_of(matrix: &Matrix, i: usize, j: usize) -> impl Iterator<Item = usize> + '_ {
+    conflicts(&matrix.rows[i], &matrix.rows[j])
+}
+
+fn called_by_both(matrix: &Matrix, i: usize, j: usize) -> usize {
+    (0..matrix.n).filter(|&c| matrix.rows[i][c] != HOLE && matrix.rows[j][c] != HOLE).count()
+}
+
+/// Half of the counts left as they were, on each acceptance: those above the diagonal, or below it.
+fn counts_left() -> Vec<Wrong> {
+    type Half = fn(usize, usize) -> bool;
+    let halves: [Half; 2] = [|i, j| i < j, |i, j| j < i];
+    let left = |half: Half| {
+        Wrong::new(Service::ConflictCounts, move |call, returned, before| {
+            let m = call.lent.table.lent().len() / RECORD;
+            if !is_refusal(returned) {
+                let left = (0..m * m).filter(|at| half(at / m, at % m));
+                left.for_each(|at| call.lent.counts.lent_mut()[at] = before.counts.lent()[at]);
+            }
+        })
+        .in_buffer(Buffer::Counts)
+    };
+    halves.map(left).into()
+}
+
+/// Counts cleared on each refusal, or only where a record is refused.
+fn counts_of_refused() -> Vec<Wrong> {
+    type Numbers = fn(u8) -> bool;
+    let all: [Numbers; 2] = [|_| true, |number| (4..=9).contains(&number)];
+    let cleared = |numbers: Numbers| {
+        Wrong::new(Service::ConflictCounts, move |call, returned, _| {
+            if matches!(returned, Returned::Outcome(Refused(number, _)) if numbers(*number)) {
+                call.lent.counts.lent_mut().fill(0);
+            }
+        })
+        .in_buffer(Buffer::Counts)
+    };
+    all.map(cleared).into()
 }
 
 /// Find with the last record in the place of the first, with nothing found, with the empty part at the table's start,
