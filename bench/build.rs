@@ -17,7 +17,7 @@ fn compiled(compiler: &str) -> String {
     // Position independent, as Rust links its programs.
     let status = Command::new(compiler)
         .args(["-std=c11", "-O3", "-fPIE", "-c", "plain/services.c", "-o", &object])
-        .arg(format!("-DBUILD=plain_{compiler}"))
+        .args(["-Iplain", "-Iplain/loops", &format!("-DBUILD=plain_{compiler}")])
         .status();
     match status {
         Ok(status) if status.success() => object,

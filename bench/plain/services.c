@@ -1,9 +1,8 @@
 // The plain services as one table of functions, the only name that is visible outside: BUILD, which the compiler's command line gives,
 // so that two builds link into one program and no call is inlined into the loop that times it.
 #include "corrections.h"
-#include "fragments.h"
 #include "packing.h"
-#include "snps.h"
+#include "removals.h"
 
 typedef struct {
     outcome (*unpack)(size_t n, const uint8_t *table, size_t length, uint8_t *cells, uint32_t *tags);

@@ -1,7 +1,6 @@
-// The least SNP removal: the programme over suffixes of the columns.
+// The least SNP removal: the programme over suffixes of the columns, two of which are compared cell by cell.
 #ifndef SNPS_H
 #define SNPS_H
-#include "phasing.h"
 #include "ranks.h"
 
 static bool column_mixed(size_t m, const uint8_t *cells, size_t c) {
@@ -43,18 +42,5 @@ static size_t snp_keep_marks(size_t m, size_t n, const uint8_t *cells, uint8_t *
     rank r = rank_get(t, 0);
     for (size_t p = 0; p < n; p++) keep[p] = 1 - rank_digit(r, p);
     return r.count;
-}
-
-static outcome least_snp_removal(size_t n, const uint8_t *table, size_t length, uint16_t *work, size_t work_length, uint8_t *answer) {
-    outcome rest = table_fault(n, table, length);
-    if (rest.number != 0) return rest;
-    size_t m = rest.value;
-    uint8_t cells[MATRIX], cols[MOST], kept[MOST];
-    memset(kept, 1, MOST);
-    fill_cells(table, m, MOST, cells);
-    size_t count = snp_keep_marks(m, n, cells, cols);
-    phase(m, n, cells, cols, kept, answer);
-    memset(work, 0, work_length * sizeof *work);
-    return accepted(count);
 }
 #endif
