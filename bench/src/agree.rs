@@ -108,7 +108,9 @@ mod tests {
 
     #[test]
     fn every_rule_of_a_record_refuses_some_request() {
-        assert_eq!(refusals(Service::Unpack), [4, 5, 6, 7, 8, 9]);
+        for service in [Service::Unpack, Service::Check, Service::S, Service::F] {
+            assert_eq!(refusals(service), [4, 5, 6, 7, 8, 9]);
+        }
         assert_eq!(refusals(Service::C), [4, 5, 6, 7, 8, 9, 12]);
         assert_eq!(refusals(Service::Pack), [4, 6, 8, 9]);
         assert_eq!(refusals(Service::Find), []);

@@ -13,8 +13,10 @@ pub enum Form {
     Sound,
     /// Find looks for a tag that no record has.
     Absent,
-    /// One byte of the input is changed.
+    /// One byte of a record's fields is changed, or of the cells for pack.
     Changed,
+    /// One of the first cells of a record is changed.
+    Miscalled,
     /// The last fragment has the first one's tag.
     Repeated,
 }
@@ -22,8 +24,9 @@ pub enum Form {
 impl Form {
     pub fn of(service: Service) -> &'static [Form] {
         match service {
-            Service::Find => &[Form::Sound, Form::Absent, Form::Changed, Form::Repeated],
-            _ => &[Form::Sound, Form::Changed, Form::Repeated],
+            Service::Find => &[Form::Sound, Form::Absent, Form::Changed, Form::Miscalled, Form::Repeated],
+            Service::Pack => &[Form::Sound, Form::Changed, Form::Repeated],
+            _ => &[Form::Sound, Form::Changed, Form::Miscalled, Form::Repeated],
         }
     }
 }
@@ -71,11 +74,13 @@ impl Request {
 
     fn spoil(&self, random: &mut Random, buffers: &mut Buffers) {
         let (table, cells, tags) = (buffers.table.lent(), buffers.cells.lent(), buffers.tags.lent());
+        // by little, so that every rule refuses some of the tables
+        let change = 1 + random.below(3) as u8;
         match (self.form, self.service) {
             (Form::Sound | Form::Absent, _) => {}
-            (Form::Changed, Service::Pack) => cells[random.below(MOST * MOST)] ^= 1 + random.below(3) as u8,
-            // a field or one of the first cells, by little, so that every rule refuses some of the tables
-            (Form::Changed, _) => table[RECORD * random.below(MOST) + random.below(10)] ^= 1 + random.below(3) as u8,
+            (Form::Changed, Service::Pack) => cells[random.below(MOST * MOST)] ^= change,
+            (Form::Changed, _) => table[RECORD * random.below(MOST) + random.below(8)] ^= change,
+            (Form::Miscalled, _) => table[RECORD * random.below(MOST) + 8 + random.below(2)] ^= change,
             (Form::Repeated, Service::Pack) => tags[MOST - 1] = tags[0],
             (Form::Repeated, _) => table.copy_within(0..4, (MOST - 1) * RECORD),
         }
@@ -89,6 +94,7 @@ impl fmt::Display for Request {
             Form::Sound => Ok(()),
             Form::Absent => out.write_str(", a tag that is absent"),
             Form::Changed => out.write_str(", a byte changed"),
+            Form::Miscalled => out.write_str(", a cell changed"),
             Form::Repeated => out.write_str(", a tag repeated"),
         }
     }
