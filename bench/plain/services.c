@@ -1,6 +1,7 @@
 // The plain services as one table of functions, the only name that is visible outside: BUILD, which the compiler's command line gives,
 // so that two builds link into one program and no call is inlined into the loop that times it.
 #include "corrections.h"
+#include "counting.h"
 #include "packing.h"
 #include "removals.h"
 
@@ -12,7 +13,8 @@ typedef struct {
     outcome (*least_snp_removal)(size_t n, const uint8_t *table, size_t length, uint16_t *work, size_t work_length, uint8_t *answer);
     outcome (*least_fragment_removal)(size_t n, const uint8_t *table, size_t length, uint16_t *work, size_t work_length, uint8_t *answer);
     outcome (*least_corrections)(size_t n, const uint8_t *table, size_t length, uint16_t *work, size_t work_length, uint8_t *answer, uint8_t *corrected);
+    outcome (*conflict_counts)(size_t n, const uint8_t *table, size_t length, uint8_t *counts);
 } services;
 
 extern const services BUILD;
-const services BUILD = {unpack, pack, find, check, least_snp_removal, least_fragment_removal, least_corrections};
+const services BUILD = {unpack, pack, find, check, least_snp_removal, least_fragment_removal, least_corrections, conflict_counts};

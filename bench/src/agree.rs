@@ -108,7 +108,7 @@ mod tests {
 
     #[test]
     fn every_rule_of_a_record_refuses_some_request() {
-        for service in [Service::Unpack, Service::Check, Service::S, Service::F] {
+        for service in [Service::Unpack, Service::Check, Service::S, Service::F, Service::ConflictCounts] {
             assert_eq!(refusals(service), [4, 5, 6, 7, 8, 9]);
         }
         assert_eq!(refusals(Service::C), [4, 5, 6, 7, 8, 9, 12]);

@@ -54,6 +54,7 @@ pub struct Buffers {
     pub answer: Guarded<u8>,
     pub corrected: Guarded<u8>,
     pub work: Guarded<u16>,
+    pub counts: Guarded<u8>,
 }
 
 impl Buffers {
@@ -65,6 +66,7 @@ impl Buffers {
             answer: Guarded::dirty("answer", answer_length(MOST, MOST), || random.next() as u8),
             corrected: Guarded::dirty("corrected", MOST * RECORD, || random.next() as u8),
             work: Guarded::dirty("work", WORK, || random.next() as u16),
+            counts: Guarded::dirty("counts", MOST * MOST, || random.next() as u8),
         }
     }
 
@@ -76,6 +78,7 @@ impl Buffers {
         self.answer.all.copy_from_slice(&other.answer.all);
         self.corrected.all.copy_from_slice(&other.corrected.all);
         self.work.all.copy_from_slice(&other.work.all);
+        self.counts.all.copy_from_slice(&other.counts.all);
     }
 
     /// Where they differ first from others, but for the contents of the buffers that are named.
@@ -86,5 +89,6 @@ impl Buffers {
             .or_else(|| self.answer.difference(&other.answer, but))
             .or_else(|| self.corrected.difference(&other.corrected, but))
             .or_else(|| self.work.difference(&other.work, but))
+            .or_else(|| self.counts.difference(&other.counts, but))
     }
 }

@@ -21,8 +21,8 @@ use tables::Kind;
 use timing::{Effort, Times};
 
 const USAGE: &str = "use: bench/run, bench/run --check, or bench/run --search SERVICE COUNT \
-(SERVICE one of unpack pack find check S F C, COUNT at least 1). RUNS and LENGTH (microseconds of a run), at least 1, \
-may be set in the environment";
+(SERVICE one of unpack pack find check S F C conflict_counts, COUNT at least 1). \
+RUNS and LENGTH (microseconds of a run), at least 1, may be set in the environment";
 
 enum Task {
     Check,

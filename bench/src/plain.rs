@@ -19,6 +19,7 @@ type Find = unsafe extern "C" fn(u32, *const u8, usize) -> usize;
 type Check = unsafe extern "C" fn(usize, *const u8, usize, *mut u8) -> PlainOutcome;
 type Removal = unsafe extern "C" fn(usize, *const u8, usize, *mut u16, usize, *mut u8) -> PlainOutcome;
 type Corrections = unsafe extern "C" fn(usize, *const u8, usize, *mut u16, usize, *mut u8, *mut u8) -> PlainOutcome;
+type Counts = unsafe extern "C" fn(usize, *const u8, usize, *mut u8) -> PlainOutcome;
 
 #[repr(C)]
 struct Build {
@@ -29,6 +30,7 @@ struct Build {
     least_snp_removal: Removal,
     least_fragment_removal: Removal,
     least_corrections: Corrections,
+    conflict_counts: Counts,
 }
 
 extern "C" {
@@ -69,6 +71,7 @@ fn plain(build: &Build, call: &Call, b: &mut Buffers) -> Outcome {
                 let (answer, corrected) = (answer.as_mut_ptr(), corrected.as_mut_ptr());
                 (build.least_corrections)(n, records, length, numbers, room, answer, corrected)
             }
+            Service::ConflictCounts => (build.conflict_counts)(n, records, length, b.counts.lent().as_mut_ptr()),
         }
     };
     read(outcome)

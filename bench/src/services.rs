@@ -1,4 +1,4 @@
-//! The seven services, and one call of any of them through the library.
+//! The eight services, and one call of any of them through the library.
 
 use crate::buffers::Buffers;
 use haplotypes::Outcome;
@@ -13,12 +13,13 @@ pub enum Service {
     S,
     F,
     C,
+    ConflictCounts,
 }
 
 impl Service {
-    pub const ALL: [Service; 7] = {
+    pub const ALL: [Service; 8] = {
         use Service::*;
-        [Unpack, Pack, Find, Check, S, F, C]
+        [Unpack, Pack, Find, Check, S, F, C, ConflictCounts]
     };
 
     pub fn name(self) -> &'static str {
@@ -30,6 +31,7 @@ impl Service {
             Service::S => "S",
             Service::F => "F",
             Service::C => "C",
+            Service::ConflictCounts => "conflict_counts",
         }
     }
 
@@ -46,6 +48,7 @@ impl Service {
             Service::Check => &["answer"],
             Service::S | Service::F => &["answer", "work"],
             Service::C => &["answer", "corrected", "work"],
+            Service::ConflictCounts => &["counts"],
         }
     }
 }
@@ -84,5 +87,6 @@ pub fn library(call: &Call, b: &mut Buffers) -> Outcome {
         Service::S => haplotypes::least_snp_removal(n, table, b.work.lent(), b.answer.lent()),
         Service::F => haplotypes::least_fragment_removal(n, table, b.work.lent(), b.answer.lent()),
         Service::C => haplotypes::least_corrections(n, table, b.work.lent(), b.answer.lent(), b.corrected.lent()),
+        Service::ConflictCounts => haplotypes::conflict_counts(n, table, b.counts.lent()),
     }
 }

@@ -120,7 +120,7 @@ impl Trial {
 }
 
 /// What is timed for the table of `docs/PERFORMANCE.md`.
-const ROWS: [(Service, &[Kind]); 7] = {
+const ROWS: [(Service, &[Kind]); 8] = {
     use Kind::*;
     [
         (Service::Unpack, &[Typical, Full, Empty]),
@@ -130,6 +130,7 @@ const ROWS: [(Service, &[Kind]); 7] = {
         (Service::S, &[Typical, Random, Clean, Full, Shallow]),
         (Service::F, &[Typical, Random, Clean, Mixed, Uniform, Single]),
         (Service::C, &[Shallow, Deep, Single]),
+        (Service::ConflictCounts, &[Typical, Random, Clean, Uniform, Empty, Single]),
     ]
 };
 

@@ -15,7 +15,7 @@ fn request(service: Service, kind: Kind, form: Form) -> Request {
 }
 
 /// Every service on a table that it accepts.
-fn accepted() -> [Request; 7] {
+fn accepted() -> [Request; 8] {
     Service::ALL.map(|service| request(service, Kind::Shallow, Form::Sound))
 }
 
@@ -53,13 +53,14 @@ fn flip<T: BitXorAssign + From<u8>>(buffer: &mut Guarded<T>, place: usize) {
 
 /// One bit in each buffer: of its first number, of its last, of the one before it and of the one after it.
 fn each_bit_is_noticed(request: Request) {
-    let flips: [fn(&mut Buffers, usize); 6] = [
+    let flips: [fn(&mut Buffers, usize); 7] = [
         |buffers, place| flip(&mut buffers.table, place),
         |buffers, place| flip(&mut buffers.cells, place),
         |buffers, place| flip(&mut buffers.tags, place),
         |buffers, place| flip(&mut buffers.answer, place),
         |buffers, place| flip(&mut buffers.corrected, place),
         |buffers, place| flip(&mut buffers.work, place),
+        |buffers, place| flip(&mut buffers.counts, place),
     ];
     for flip in flips {
         for place in 0..4 {
