@@ -63,17 +63,20 @@ pub fn measure(request: Request, all: &All, effort: Effort) -> Result<Times, Str
     let (call, before) = request.call();
     let left = Left { outcome: expected.outcome, buffers: before.clone() };
     let mut trial = Trial { request, call, before, left, expected };
-    let times = trial.repetitions(&all[0], effort.length)?;
-    let mut least = [i64::MAX; 3];
+    let mut times = [0; 3];
+    for (times, implementation) in times.iter_mut().zip(all) {
+        *times = trial.repetitions(implementation, effort.length)?;
+    }
+    let mut least = [f64::INFINITY; 3];
     for _ in 0..effort.runs {
-        for (least, implementation) in least.iter_mut().zip(all) {
-            *least = trial.run(implementation, times)?.min(*least);
+        for ((least, times), implementation) in least.iter_mut().zip(times).zip(all) {
+            *least = least.min(trial.run(implementation, times)? as f64 / times as f64);
         }
     }
-    if least.contains(&0) {
+    if least.contains(&0.0) {
         return Err(format!("no times of {request}"));
     }
-    Ok(Times(least.map(|time| time as f64 / times as f64)))
+    Ok(Times(least))
 }
 
 /// A request that is timed, in the same buffers whoever serves it.
