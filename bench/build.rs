@@ -1,23 +1,26 @@
-//! Compiles the plain implementation twice, by gcc and by clang, and links both.
+//! Compiles the implementations in C, by loops and by masks, each by gcc and by clang, and links all four.
 
 use std::path::Path;
 use std::process::{exit, Command};
 
 fn main() {
     println!("cargo:rerun-if-changed=plain");
-    for compiler in ["gcc", "clang"] {
-        println!("cargo:rustc-link-arg={}", compiled(compiler));
+    for method in ["loops", "masks"] {
+        for compiler in ["gcc", "clang"] {
+            println!("cargo:rustc-link-arg={}", compiled(method, compiler));
+        }
     }
 }
 
-/// The object of the plain implementation by a compiler. Ends the build, with a message, where there is none.
-fn compiled(compiler: &str) -> String {
+/// The object of an implementation by a compiler. Ends the build, with a message, where there is none.
+fn compiled(method: &str, compiler: &str) -> String {
     let folder = std::env::var("OUT_DIR").expect("cargo names the folder");
-    let object = Path::new(&folder).join(format!("{compiler}.o")).display().to_string();
+    let build = format!("{method}_{compiler}");
+    let object = Path::new(&folder).join(format!("{build}.o")).display().to_string();
     // Position independent, as Rust links its programs.
     let status = Command::new(compiler)
         .args(["-std=c11", "-O3", "-fPIE", "-c", "plain/services.c", "-o", &object])
-        .args(["-Iplain", "-Iplain/loops", &format!("-DBUILD=plain_{compiler}")])
+        .args(["-Iplain", &format!("-Iplain/{method}"), &format!("-DBUILD={build}")])
         .status();
     match status {
         Ok(status) if status.success() => object,

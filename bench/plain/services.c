@@ -1,5 +1,6 @@
-// The plain services as one table of functions, the only name that is visible outside: BUILD, which the compiler's command line gives,
-// so that two builds link into one program and no call is inlined into the loop that times it.
+// The services as one table of functions, the only name that is visible outside: BUILD, which the compiler's command line gives,
+// so that several builds link into one program and no call is inlined into the loop that times it.
+// What compares fragments and columns (phasing.h, snps.h, fragments.h, counts.h) is of loops or of masks, by the include path.
 #include "corrections.h"
 #include "counting.h"
 #include "packing.h"

@@ -1,4 +1,4 @@
-//! Whether the library and both builds of the plain implementation leave the same outcome and the same bytes.
+//! Whether the library and all builds of the implementations in C leave the same outcome and the same bytes.
 
 use crate::buffers::Buffers;
 use crate::plain;
@@ -7,14 +7,20 @@ use crate::services::{self, Implementation, Service};
 use crate::tables::Kind;
 use haplotypes::Outcome;
 
-/// gcc, clang, library
-pub type All<'a> = [Implementation<'a>; 3];
+/// loops by gcc and by clang, masks by gcc and by clang, library
+pub type All<'a> = [Implementation<'a>; 5];
 
 pub const ALL: All<'static> = [
-    Implementation { name: "gcc", call: &plain::gcc },
-    Implementation { name: "clang", call: &plain::clang },
+    Implementation { name: "loops gcc", call: &plain::loops_gcc },
+    Implementation { name: "loops clang", call: &plain::loops_clang },
+    Implementation { name: "masks gcc", call: &plain::masks_gcc },
+    Implementation { name: "masks clang", call: &plain::masks_clang },
     Implementation { name: "library", call: &services::library },
 ];
+
+/// The library's place among all.
+#[cfg(test)]
+pub const LIBRARY: usize = 4;
 
 const SEEDS: [u64; 3] = [1, 2, 3];
 
@@ -40,17 +46,17 @@ impl Left {
 
 /// What all leave of a request, or what is wrong with it.
 pub fn agree(request: Request, all: &All) -> Result<Left, String> {
-    let [gcc, clang, library] = all;
-    let first = left(request, gcc)?;
-    for other in [clang, library] {
-        if let Some(difference) = left(request, other)?.difference(&first) {
-            return Err(format!("{} and {} differ on {request}: {difference}", other.name, gcc.name));
+    let [first, others @ ..] = all;
+    let expected = left(request, first)?;
+    for other in others {
+        if let Some(difference) = left(request, other)?.difference(&expected) {
+            return Err(format!("{} and {} differ on {request}: {difference}", other.name, first.name));
         }
     }
-    if request.must_be_accepted() && !first.is_accepted() {
-        return Err(format!("{}: {request}", first.outcome));
+    if request.must_be_accepted() && !expected.is_accepted() {
+        return Err(format!("{}: {request}", expected.outcome));
     }
-    Ok(first)
+    Ok(expected)
 }
 
 /// What one leaves. No byte is changed but those of the buffers that an accepted call writes.
@@ -82,7 +88,7 @@ pub fn agree_on_all(all: &All) -> Result<String, String> {
         accepted += agree(request, all)?.is_accepted() as usize;
         calls += 1;
     }
-    let agreed = "bench: the library and the plain implementation agree on";
+    let agreed = "bench: the library and the implementations in C agree on";
     Ok(format!("{agreed} {calls} calls, {accepted} of them accepted, in every byte"))
 }
 
@@ -127,7 +133,7 @@ mod tests {
             assert_eq!(buffers.difference(&before, &[]), None);
             outcome
         });
-        assert_eq!(outcomes, [outcomes[0]; 3]);
+        assert_eq!(outcomes, [outcomes[0]; 5]);
         outcomes[0]
     }
 

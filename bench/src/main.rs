@@ -1,4 +1,4 @@
-//! Compares the proved library with a plain implementation in C of the same algorithms, in one process: `bench/run`.
+//! Compares the proved library with C of the same algorithms, by loops over cells and by masks: `bench/run`.
 
 mod agree;
 mod buffers;
@@ -23,6 +23,10 @@ use timing::{Effort, Times};
 const USAGE: &str = "use: bench/run, bench/run --check, or bench/run --search SERVICE COUNT \
 (SERVICE one of unpack pack find check S F C conflict_counts, COUNT at least 1). \
 RUNS and LENGTH (microseconds of a run), at least 1, may be set in the environment";
+
+/// The head of the table.
+const HEAD: &str = "| service | table | loops gcc µs | loops clang µs | masks gcc µs | masks clang µs | library µs \
+| ratio to loops | ratio to masks |\n|---|---|---|---|---|---|---|---|---|";
 
 enum Task {
     Check,
@@ -80,7 +84,7 @@ fn run(task: Task) -> Result<(), String> {
 }
 
 fn print_table(out: &mut Out, effort: Effort) -> Result<(), String> {
-    out.line("| service | table | gcc µs | clang µs | library µs | ratio |\n|---|---|---|---|---|---|")?;
+    out.line(HEAD)?;
     for row in timing::rows() {
         let times = timing::measure(row, &agree::ALL, effort)?;
         out.line(&format!("| {} | {} | {} |", row.service, timing::row_name(&row), times.joined(" | ")))?;
@@ -88,13 +92,13 @@ fn print_table(out: &mut Out, effort: Effort) -> Result<(), String> {
     Ok(())
 }
 
-/// The three slowest of so many tables, the slowest last: gcc, clang, library, ratio, kind and seed.
+/// The three slowest of so many tables, the slowest last: the times and ratios of a row, kind and seed.
 fn print_slowest(out: &mut Out, service: Service, count: u64, effort: Effort) -> Result<(), String> {
     let mut measured: Vec<(Times, u64)> = Vec::new();
     for seed in 1..=count {
         let request = Request { service, kind: Kind::Drawn, seed, form: Form::Sound };
         measured.push((timing::measure(request, &agree::ALL, effort)?, seed));
-        measured.sort_by(|(one, _), (other, _)| other.library().total_cmp(&one.library()));
+        measured.sort_by(|(one, _), (other, _)| other.library.total_cmp(&one.library));
         measured.truncate(3);
     }
     let lines = measured.iter().rev().map(|(times, seed)| format!("{} drawn {seed}", times.joined(" ")));

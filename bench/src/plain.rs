@@ -1,4 +1,4 @@
-//! The plain implementation, as gcc and as clang compile it: `bench/plain/services.c`.
+//! The implementations in C, by loops and by masks, as gcc and as clang compile them: `bench/plain/services.c`.
 
 use crate::buffers::Buffers;
 use crate::services::{Call, Service};
@@ -33,17 +33,31 @@ struct Build {
     conflict_counts: Counts,
 }
 
-extern "C" {
-    static plain_gcc: Build;
-    static plain_clang: Build;
+mod builds {
+    use super::Build;
+
+    extern "C" {
+        pub static loops_gcc: Build;
+        pub static loops_clang: Build;
+        pub static masks_gcc: Build;
+        pub static masks_clang: Build;
+    }
 }
 
-pub fn gcc(call: &Call, buffers: &mut Buffers) -> Outcome {
-    plain(unsafe { &plain_gcc }, call, buffers)
+pub fn loops_gcc(call: &Call, buffers: &mut Buffers) -> Outcome {
+    plain(unsafe { &builds::loops_gcc }, call, buffers)
 }
 
-pub fn clang(call: &Call, buffers: &mut Buffers) -> Outcome {
-    plain(unsafe { &plain_clang }, call, buffers)
+pub fn loops_clang(call: &Call, buffers: &mut Buffers) -> Outcome {
+    plain(unsafe { &builds::loops_clang }, call, buffers)
+}
+
+pub fn masks_gcc(call: &Call, buffers: &mut Buffers) -> Outcome {
+    plain(unsafe { &builds::masks_gcc }, call, buffers)
+}
+
+pub fn masks_clang(call: &Call, buffers: &mut Buffers) -> Outcome {
+    plain(unsafe { &builds::masks_clang }, call, buffers)
 }
 
 /// F keeps its weights in static arrays, so it serves one thread at a time.

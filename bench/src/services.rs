@@ -51,6 +51,11 @@ impl Service {
             Service::ConflictCounts => &["counts"],
         }
     }
+
+    /// Whether it compares fragments or columns: the others are the same C by loops and by masks.
+    pub fn compares(self) -> bool {
+        !matches!(self, Service::Unpack | Service::Pack | Service::Find)
+    }
 }
 
 impl fmt::Display for Service {

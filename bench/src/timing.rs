@@ -27,25 +27,27 @@ pub struct Effort {
     pub length: i64,
 }
 
-/// Microseconds of one call by gcc, clang and the library.
+/// Microseconds of one call, in C by gcc and by clang.
 #[derive(Clone, Copy)]
-pub struct Times([f64; 3]);
+pub struct Times {
+    loops: [f64; 2],
+    /// none where the service is the same C as by loops
+    masks: Option<[f64; 2]>,
+    pub library: f64,
+}
 
 impl Times {
-    pub fn library(&self) -> f64 {
-        self.0[2]
+    /// The library's time to that of the faster build.
+    fn ratio(&self, [gcc, clang]: [f64; 2]) -> String {
+        format!("{:.2}", self.library / gcc.min(clang))
     }
 
-    /// The library's time to that of the faster build of the plain implementation.
-    fn ratio(&self) -> f64 {
-        self.0[2] / self.0[0].min(self.0[1])
-    }
-
-    /// gcc, clang, library and the ratio, with a word between them.
+    /// The times in the order of `ALL`, and the ratios to the loops and to the masks, with a word between them.
     pub fn joined(&self, between: &str) -> String {
-        let mut words: Vec<String> = self.0.iter().map(|time| shown(*time)).collect();
-        words.push(format!("{:.2}", self.ratio()));
-        words.join(between)
+        let none = || "-".to_string();
+        let masks = self.masks.map_or_else(|| [none(), none()], |times| times.map(shown));
+        let ratios = [self.ratio(self.loops), self.masks.map_or_else(none, |times| self.ratio(times))];
+        [&self.loops.map(shown)[..], &masks, &[shown(self.library)], &ratios].concat().join(between)
     }
 }
 
@@ -63,11 +65,11 @@ pub fn measure(request: Request, all: &All, effort: Effort) -> Result<Times, Str
     let (call, before) = request.call();
     let left = Left { outcome: expected.outcome, buffers: before.clone() };
     let mut trial = Trial { request, call, before, left, expected };
-    let mut times = [0; 3];
+    let mut times = [0; 5];
     for (times, implementation) in times.iter_mut().zip(all) {
         *times = trial.repetitions(implementation, effort.length)?;
     }
-    let mut least = [f64::INFINITY; 3];
+    let mut least = [f64::INFINITY; 5];
     for _ in 0..effort.runs {
         for ((least, times), implementation) in least.iter_mut().zip(times).zip(all) {
             *least = least.min(trial.run(implementation, times)? as f64 / times as f64);
@@ -76,7 +78,8 @@ pub fn measure(request: Request, all: &All, effort: Effort) -> Result<Times, Str
     if least.contains(&0.0) {
         return Err(format!("no times of {request}"));
     }
-    Ok(Times(least))
+    let [gcc, clang, masks @ .., library] = least;
+    Ok(Times { loops: [gcc, clang], masks: request.service.compares().then_some(masks), library })
 }
 
 /// A request that is timed, in the same buffers whoever serves it.

@@ -1,6 +1,6 @@
 //! Wrong implementations, which what `bench/run` runs must notice. Each prints a line then, for `bench/test` to count.
 
-use crate::agree::{agree, agree_on_all, requests, ALL};
+use crate::agree::{agree, agree_on_all, requests, ALL, LIBRARY};
 use crate::buffers::{Buffers, Guarded, GUARD};
 use crate::request::{Form, Request};
 use crate::services::{Call, Implementation, Service};
@@ -156,7 +156,7 @@ fn the_same_write_by_all() {
     for (request, places) in around.into_iter().chain(refused().map(|request| (request, 0..4))) {
         for place in places {
             let call = |call: &Call, buffers: &mut Buffers| {
-                let outcome = (ALL[2].call)(call, buffers);
+                let outcome = (ALL[LIBRARY].call)(call, buffers);
                 flip(&mut buffers.answer, place);
                 outcome
             };
@@ -169,7 +169,7 @@ fn the_same_write_by_all() {
 /// The library, wrong from that call on: it counts one too many, or writes after the table.
 fn wrong_from(first: usize, calls: &Cell<usize>, count: bool, call: &Call, buffers: &mut Buffers) -> Outcome {
     calls.set(calls.get() + 1);
-    let outcome = (ALL[2].call)(call, buffers);
+    let outcome = (ALL[LIBRARY].call)(call, buffers);
     match outcome {
         _ if calls.get() < first => outcome,
         Outcome::Accepted(number) if count => Outcome::Accepted(number + 1),
@@ -187,7 +187,7 @@ fn the_first_call_and_the_last() {
         let calls = Cell::new(0);
         let call = |call: &Call, buffers: &mut Buffers| wrong_from(first, &calls, true, call, buffers);
         let mut all = ALL;
-        all[2].call = &call;
+        all[LIBRARY].call = &call;
         see(agree_on_all(&all).map(|_| ()), "library", requests().nth(first - 1).unwrap());
     }
 }
@@ -199,7 +199,7 @@ fn a_repeated_call() {
             let calls = Cell::new(0);
             let call = |call: &Call, buffers: &mut Buffers| wrong_from(2, &calls, count, call, buffers);
             let mut all = ALL;
-            all[2].call = &call;
+            all[LIBRARY].call = &call;
             let measured = measure(request, &all, Effort { runs: 1, length: 1 });
             see(measured.map(|_| ()), "library differs in repeated calls", request);
         }
