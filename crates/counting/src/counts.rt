@@ -1,8 +1,7 @@
 // conflict_counts: on how many columns each two fragments conflict.
 ghost use mathlib.Core.Path.{_≡_};
-ghost use Prim.Native.Nat.{_+_, _*_, _≤_};
-ghost use lib.ListN.{length, getD};
-ghost use Rattle.below.specs.Below.{tab};
+ghost use Prim.Native.Nat.{_*_, _≤_};
+ghost use lib.ListN.{length};
 ghost use Rattle.records.specs.Outcome.{outcomeOf};
 ghost use Rattle.records.specs.Algorithm.Kept.{SizesKept};
 ghost use Rattle.conflicts.specs.Grid.{gridOf};
@@ -16,22 +15,11 @@ use masks::kept;
 use masks::mask_room;
 use matrix::all_kept;
 use matrix::blank_cells;
+use matrix::copy;
 use matrix::fill_matrix;
 use records::Outcome;
 use records::records_fault;
 use records::size_fault;
-
-// Writes the numbers of a matrix from one place on.
-fn copy_row(matrix: &[u8], from: usize, row: &mut [u8])
-    requires { ⌜ from + length (now row) ≤ length (now matrix) ⌝ }
-    ensures { λ _. ⌜ now (row .exit) ≡ tab (length (now (row .entry))) (λ j. getD (now (matrix .entry)) (from + j) 0) ⌝ }
-{
-    let mut j = 0;
-    while j < row.len() {
-        row[j] = matrix[from + j];
-        j += 1;
-    }
-}
 
 // Writes the first m numbers of the first m rows of a matrix, 128 to a row.
 fn copy_rows(m: usize, matrix: &[u8], counts: &mut [u8])
@@ -41,7 +29,8 @@ fn copy_rows(m: usize, matrix: &[u8], counts: &mut [u8])
     let mut first = 0;
     let mut i = 0;
     while i < m {
-        copy_row(matrix, i * 128, &mut counts[first..first + m]);
+        let row = i * 128;
+        copy(&matrix[row..row + m], &mut counts[first..first + m]);
         first += m;
         i += 1;
     }

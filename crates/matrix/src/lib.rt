@@ -1,8 +1,10 @@
 // The cell matrix that the services work on.
 mod cells;
 mod room;
+mod rows;
 
 pub use cells::call_at;
 pub use cells::fill_matrix;
 pub use room::all_kept;
 pub use room::blank_cells;
+pub use rows::copy;

@@ -5,11 +5,11 @@ use mathlib.Core.Path.{_≡_, sym, ap, _∙_}
 use Prim.Native.Nat.{ℕ, _+_, _*_, _-_, _≤_}
 use native.Mathlib.Omega.{arith}
 use native.Mathlib.Nat.{zero-mul, add-sub-cancel-left, mul-le-mul-right}
-use lib.ListN.{getD}
+use lib.ListN.{take, drop}
 use borrow.Rule.Slice.PartMut.{same-len-mid, mid-len}
 use Rattle.below.specs.Below.{tab, nth}
 use Rattle.below.proofs.FillLaws.{Filled, filled-none, filled-part, filled-all}
-use Rattle.below.proofs.RowLaws.{tab-ext, tab-again, row-within, row-next}
+use Rattle.below.proofs.RowLaws.{tab-ext, part-again, tab-again, row-within, row-next}
 use Rattle.counting.specs.Algorithm.Rows.{rowsOf}
 use Rattle.counting.proofs.CountingLaws.{rows-length, rows-at}
 use Rattle.counting.proofs.counts.copy_rows.Statement.{statement}
@@ -32,37 +32,41 @@ row-in c =
 loop-holds : tie.Need-loop-holds Inv-loop μ-loop
 loop-holds c = (filled-none _ _ _ (c .before .before .pre .2), sym (zero-mul _))
 
-add-copy-row : tie.Need-add-copy-row Inv-loop μ-loop
-add-copy-row c = let r = row-in c in let s = c .before .loop .inv .0 .sized in omega arith
+part-copy-end : tie.Need-part-copy-end Inv-loop μ-loop
+part-copy-end c =
+    let few = c .before .before .before .before .pre .0 in
+    let long = c .before .before .before .before .pre .1 in
+    omega (arith, c .loop-test .taken)
 
-part-copy-row-end : tie.Need-part-copy-row-end Inv-loop μ-loop
-part-copy-row-end c = let r = row-in c in let s = c .before .loop .inv .0 .sized in omega arith
+add-copy-2 : tie.Need-add-copy-2 Inv-loop μ-loop
+add-copy-2 c = let r = row-in (c .before) in let s = c .before .before .loop .inv .0 .sized in omega arith
 
-copy-row-requires : tie.Need-copy-row-requires Inv-loop μ-loop
-copy-row-requires c κs =
-    let l = c .before .before .loop in
-    let a = c .before .before .before .before .before .args in
-    let r = row-in (c .before) in
-    let s = l .inv .0 .sized in
-    let long = mid-len (l .first) (l .first + a .m) (l .counts) (omega arith) ∙ add-sub-cancel-left (l .first) (a .m) in
-    omega (arith, c .before .before .before .before .before .pre .0, c .before .before .before .before .before .pre .1, c .before .loop-test .taken)
+part-copy-end-2 : tie.Need-part-copy-end-2 Inv-loop μ-loop
+part-copy-end-2 c = let r = row-in (c .before) in let s = c .before .before .loop .inv .0 .sized in omega arith
+
+copy-requires : tie.Need-copy-requires Inv-loop μ-loop
+copy-requires c κs =
+    let l = c .before .before .before .loop in
+    let a = c .before .before .before .before .before .before .args in
+    mid-len (l .first) _ (l .counts) (part-copy-end-2 (c .before))
+    ∙ add-sub-cancel-left (l .first) (a .m)
+    ∙ sym (mid-len _ _ (a .matrix .now) (part-copy-end (c .before .before)) ∙ add-sub-cancel-left _ (a .m))
 
 add-first : tie.Need-add-first Inv-loop μ-loop
-add-first c = let r = row-in (c .before .before .before .before) in let s = c .before .before .before .before .before .loop .inv .0 .sized in omega arith
+add-first c = let r = row-in (c .before .before .before .before .before) in let s = c .before .before .before .before .before .before .loop .inv .0 .sized in omega arith
 
 loop-again : tie.Need-loop-again Inv-loop μ-loop
 loop-again c =
-    let w = c .before .before .copy-row in
-    let l = c .before .before .before .before .before .loop in
-    let a = c .before .before .before .before .before .before .before .before .args in
-    let end = l .first + a .m in
-    let r = row-in (c .before .before .before .before) in
-    let sized = l .inv .0 .sized in
-    let long = mid-len (l .first) end (l .counts) (omega arith) ∙ add-sub-cancel-left (l .first) (a .m) in (
-      filled-part _ _ (l .first) (a .m) (l .counts) (w .last .1 .1 .0) (l .inv .0) r (same-len-mid (l .first) (end - l .first) (l .counts) (w .last .1 .1 .0) (w .kept .1 .1 .0))
+    let turn = c .before .before .before .before .before in
+    let l = turn .before .loop in
+    let a = turn .before .before .before .before .args in
+    let w = c .before .before .copy in
+    let row = l .i * 128 in (
+      filled-part _ _ (l .first) (a .m) (l .counts) (w .last .1 .0) (l .inv .0) (row-in turn) (same-len-mid (l .first) (l .first + a .m - l .first) (l .counts) (w .last .1 .0) (w .kept .1 .0))
           (w .ensures
-          ∙ ap (λ (k : ℕ). tab k (λ q. getD (a .matrix .now) (l .i * 128 + q) 0)) long
-          ∙ tab-ext (a .m) _ _ (λ q h. rows-at (a .m) (a .matrix .now) (l .i) q (l .inv .1) (c .before .before .before .before .loop-test .taken) h)),
+          ∙ ap (λ (k : ℕ). take k (drop row (a .matrix .now))) (add-sub-cancel-left row (a .m))
+          ∙ sym (part-again 0 (a .m) row (a .matrix .now) (part-copy-end turn))
+          ∙ tab-ext (a .m) _ _ (λ q h. rows-at (a .m) (a .matrix .now) (l .i) q (l .inv .1) (turn .loop-test .taken) h)),
       row-next (l .i) (a .m) (l .inv .1),
     )
 
@@ -87,11 +91,15 @@ copy-rows-spec =
     μ-loop
     loop-holds
     (λ c. search needs)
-    add-copy-row
     (λ c. search needs)
     (λ c. search needs)
-    part-copy-row-end
-    copy-row-requires
+    (λ c. search needs)
+    part-copy-end
+    add-copy-2
+    (λ c. search needs)
+    (λ c. search needs)
+    part-copy-end-2
+    copy-requires
     add-first
     (λ c. search needs)
     (λ c. search needs)
