@@ -19,7 +19,7 @@ use Rattle.masks.specs.Algorithm.Words.{wordOf, halfWord, InWord}
 use Rattle.masks.specs.Algorithm.Places.{anywhere, placesWhere, bothOf, eitherOf, size, callPlaces, conflictPlaces, agreePlaces}
 use Rattle.masks.specs.Algorithm.Masks.{hasLetter, lineOf, maskWords, lineAt, Masks}
 use Rattle.masks.proofs.WordLaws.{word-wider, word-none}
-use Rattle.masks.proofs.PlaceLaws.{where-ext, upTo, both-below, either-below, some-below, size-below}
+use Rattle.masks.proofs.PlaceLaws.{places, where-ext, upTo, both-below, either-below, some-below, size-below}
 
 -- ---- the words of a line
 
@@ -49,14 +49,11 @@ line-is g i {words} masks h =
     let few = masks .few in
     let at : (k letter half : ℕ) → k < 512 → 1 + k / 2 % 2 ≡ letter → k / 4 ≡ i → k % 2 ≡ half → nth words k ≡ halfWord (hasLetter g letter i) half
     = λ k letter half l el ei eh. rw (masks .are) (getD-tab 512 (maskWord g) k 0 l ∙ sym (word-is g k letter i half el ei eh)) in
-    ap₂ line (ap₂ words′ (at (i * 4) 1 0 (omega arith) (omega arith) (omega arith) (omega arith)) (at (i * 4 + 1) 1 1 (omega arith) (omega arith) (omega arith) (omega arith)))
-    (ap₂ words′ (at (i * 4 + 2) 2 0 (omega arith) (omega arith) (omega arith) (omega arith)) (at (i * 4 + 3) 2 1 (omega arith) (omega arith) (omega arith) (omega arith)))
+    ap₂ line (ap₂ places (at (i * 4) 1 0 (omega arith) (omega arith) (omega arith) (omega arith)) (at (i * 4 + 1) 1 1 (omega arith) (omega arith) (omega arith) (omega arith)))
+    (ap₂ places (at (i * 4 + 2) 2 0 (omega arith) (omega arith) (omega arith) (omega arith)) (at (i * 4 + 3) 2 1 (omega arith) (omega arith) (omega arith) (omega arith)))
   where
     line : Places → Places → Line
     line a b = record { a = a; b = b }
-
-    words′ : ℕ → ℕ → Places
-    words′ low high = record { low = low; high = high }
 
 -- ---- two lines
 

@@ -15,28 +15,29 @@ use Rattle.masks.proofs.WordLaws.{word-ext, and-word, or-word, ones-wor
 
 -- ---- two words
 
-abbrev words : ℕ → ℕ → Places
-words low high = record { low = low; high = high }
+-- the set that two words are
+abbrev pub places : ℕ → ℕ → Places
+places low high = record { low = low; high = high }
 
 pub where-ext : (p q : ℕ → Bool) → ((c : ℕ) → c < 128 → p c ≡ q c) → placesWhere p ≡ placesWhere q
 unfolding placesWhere halfWord
-where-ext p q h = ap₂ words (word-ext 64 _ _ (λ b l. h (0 * 64 + b) (omega arith))) (word-ext 64 _ _ (λ b l. h (1 * 64 + b) (omega arith)))
+where-ext p q h = ap₂ places (word-ext 64 _ _ (λ b l. h (0 * 64 + b) (omega arith))) (word-ext 64 _ _ (λ b l. h (1 * 64 + b) (omega arith)))
 
 pub both-of : (p q : ℕ → Bool) → bothOf (placesWhere p) (placesWhere q) ≡ placesWhere (λ c. p c and q c)
 unfolding bothOf placesWhere halfWord
-both-of p q = ap₂ words (and-word 64 _ _) (and-word 64 _ _)
+both-of p q = ap₂ places (and-word 64 _ _) (and-word 64 _ _)
 
 pub either-of : (p q : ℕ → Bool) → eitherOf (placesWhere p) (placesWhere q) ≡ placesWhere (λ c. p c or q c)
 unfolding eitherOf placesWhere halfWord
-either-of p q = ap₂ words (or-word 64 _ _) (or-word 64 _ _)
+either-of p q = ap₂ places (or-word 64 _ _) (or-word 64 _ _)
 
 pub both-comm : (x y : Places) → bothOf x y ≡ bothOf y x
 unfolding bothOf
-both-comm x y = ap₂ words (and-comm (x .low) (y .low)) (and-comm (x .high) (y .high))
+both-comm x y = ap₂ places (and-comm (x .low) (y .low)) (and-comm (x .high) (y .high))
 
 pub either-comm : (x y : Places) → eitherOf x y ≡ eitherOf y x
 unfolding eitherOf
-either-comm x y = ap₂ words (or-comm (x .low) (y .low)) (or-comm (x .high) (y .high))
+either-comm x y = ap₂ places (or-comm (x .low) (y .low)) (or-comm (x .high) (y .high))
 
 -- ---- tests of the places below n
 

@@ -1,8 +1,7 @@
 // Two lines of a matrix, fragments or columns, compared by the places at which they have A and at which they have B.
 ghost use mathlib.Core.Path.{_≡_};
 ghost use Prim.Native.Nat.{_≤_};
-ghost use Rattle.masks.specs.Algorithm.Places.{size, bothOf, occupied, callPlaces, conflictPlaces, agreePlaces};
-ghost use Rattle.below.specs.Below.{_and_};
+ghost use Rattle.masks.specs.Algorithm.Places.{size, bothOf, occupied, callPlaces, conflictPlaces, agreePlaces, bothKinds};
 use crate::places::Places;
 
 pub struct Line {
@@ -53,7 +52,7 @@ pub(crate) fn share_call(first: Line, second: Line, keep: Places) -> bool
 
 // Whether two columns are in conflict: some fragment has one letter at both, and some has two (paper 001, section 3.1).
 pub fn columns_conflict(first: Line, second: Line) -> bool
-    ensures { λ r. ⌜ r ≡ (occupied (agreePlaces first second) and occupied (conflictPlaces first second)) ⌝ }
+    ensures { λ r. ⌜ r ≡ bothKinds first second ⌝ }
 {
     if first.agreements(second).any() {
         return first.conflicts(second).any();

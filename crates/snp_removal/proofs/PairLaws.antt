@@ -11,7 +11,7 @@ use Rattle.below.specs.Below.{_==_, _and_, _or_, isnt}
 use Rattle.records.specs.Record.{isCall}
 use Rattle.below.proofs.BelowLaws.{both, left-of, right-of, or-left, or-right, or-cases, same-test, ==-eq, ==-refl, eq-==, isnt-==, ne-isnt, any-ext}
 use Rattle.conflicts.specs.Grid.{Grid, callsConflict}
-use Rattle.masks.specs.Algorithm.Places.{occupied, conflictPlaces, agreePlaces}
+use Rattle.masks.specs.Algorithm.Places.{occupied, conflictPlaces, agreePlaces, bothKinds}
 use Rattle.masks.specs.Algorithm.Masks.{lineAt, transposed, Masks}
 use Rattle.masks.proofs.PlaceLaws.{occupied-below}
 use Rattle.masks.proofs.LineLaws.{codesAgree, line-is, lines-agree, lines-conflict}
@@ -65,8 +65,8 @@ module _ (x y : ℕ) where
 
 module _ (g : Grid) (words : List ℕ) (a c : ℕ) (masks : Masks (transposed g) words) (ha : a < g .n) (hc : c < g .n) where
   -- they have both kinds of fragments exactly if they are in conflict
-  words-conflict : (occupied (agreePlaces (lineAt words a) (lineAt words c)) and occupied (conflictPlaces (lineAt words a) (lineAt words c))) ≡ columnsConflict g a c
-  unfolding transposed sameLetter otherLetter callsBoth
+  words-conflict : bothKinds (lineAt words a) (lineAt words c) ≡ columnsConflict g a c
+  unfolding bothKinds transposed sameLetter otherLetter callsBoth
   words-conflict =
       let t = transposed g in
       let la = line-is t a masks ha in
@@ -88,10 +88,7 @@ unfolding wordsFollow
 follows-none words j c e = rw e
 
 pub follows-last : (words : List ℕ) (j c : ℕ) (b : Bool) → (j ≡ 0 → ⊥)
-    → b ≡ (occupied (agreePlaces (lineAt words (j - 1)) (lineAt words c)) and occupied (conflictPlaces (lineAt words (j - 1)) (lineAt words c))) → not b ≡ wordsFollow words j c
+    → b ≡ bothKinds (lineAt words (j - 1)) (lineAt words c) → not b ≡ wordsFollow words j c
 unfolding wordsFollow isnt
 follows-last words zero c b ne e = absurd (ne refl)
-follows-last words (suc j) c b ne e = ap not (e ∙ ap split (let q : suc j - 1 ≡ j = omega arith in q))
-  where
-    split : ℕ → Bool
-    split a = occupied (agreePlaces (lineAt words a) (lineAt words c)) and occupied (conflictPlaces (lineAt words a) (lineAt words c))
+follows-last words (suc j) c b ne e = ap not (e ∙ ap (λ (a : ℕ). bothKinds (lineAt words a) (lineAt words c)) (let q : suc j - 1 ≡ j = omega arith in q))

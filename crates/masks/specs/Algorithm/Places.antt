@@ -5,6 +5,7 @@ use Prim.Native.Nat.{ℕ, _+_}
 use lib.Bits.{bitAnd, bitOr}
 use lib.Count.{ones}
 use lib.Dec.{eqb}
+use Rattle.below.specs.Below.{_and_}
 use Rattle.masks.specs.declared.places.Places.{Places}
 use Rattle.masks.specs.declared.lines.Line.{Line}
 use Rattle.masks.specs.Algorithm.Words.{halfWord}
@@ -40,3 +41,7 @@ conflictPlaces x y = eitherOf (bothOf (x .a) (y .b)) (bothOf (x .b) (y .a))
 
 unfoldable pub agreePlaces : Line → Line → Places
 agreePlaces x y = eitherOf (bothOf (x .a) (y .a)) (bothOf (x .b) (y .b))
+
+-- some place has one letter in both lines, and some has two
+unfoldable pub bothKinds : Line → Line → Bool
+bothKinds x y = occupied (agreePlaces x y) and occupied (conflictPlaces x y)

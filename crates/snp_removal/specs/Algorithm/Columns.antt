@@ -6,7 +6,7 @@ use mathlib.Core.List.{List}
 use Rattle.below.specs.Below.{_==_, _and_, _or_, isnt, anyBelow}
 use Rattle.records.specs.Record.{isCall}
 use Rattle.conflicts.specs.Grid.{Grid}
-use Rattle.masks.specs.Algorithm.Places.{occupied, conflictPlaces, agreePlaces}
+use Rattle.masks.specs.Algorithm.Places.{bothKinds}
 use Rattle.masks.specs.Algorithm.Masks.{lineAt}
 
 -- fragment f calls columns a and c
@@ -30,4 +30,4 @@ mayFollow g (suc a) c = isnt (columnsConflict g a c)
 -- the same by the words of the columns' masks: no fragment has one letter at both, or none has two
 unfoldable pub wordsFollow : List ℕ → ℕ → ℕ → Bool
 wordsFollow words zero c = true
-wordsFollow words (suc a) c = isnt (occupied (agreePlaces (lineAt words a) (lineAt words c)) and occupied (conflictPlaces (lineAt words a) (lineAt words c)))
+wordsFollow words (suc a) c = isnt (bothKinds (lineAt words a) (lineAt words c))

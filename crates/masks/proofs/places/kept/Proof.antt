@@ -2,15 +2,11 @@
 -- Assumes nothing.
 use borrow.Author.Needs.{needs}
 use mathlib.Core.Path.{ap₂}
-use Prim.Native.Nat.{ℕ}
-use Rattle.masks.specs.declared.places.Places.{Places}
 use Rattle.masks.specs.Algorithm.Places.{placesWhere}
 use Rattle.masks.specs.Algorithm.Words.{halfWord}
+use Rattle.masks.proofs.PlaceLaws.{places}
 use Rattle.masks.proofs.places.kept.Statement.{statement}
 use Rattle.masks.proofs.places.kept.Tie as tie
-
-abbrev places : ℕ → ℕ → Places
-places low high = record { low = low; high = high }
 
 returns : tie.Need-returns
 unfolding placesWhere halfWord

@@ -2,9 +2,7 @@
 -- Assumes nothing.
 use borrow.Author.Needs.{needs}
 use mathlib.Core.Path.{ap₂, _∙_}
-use Rattle.below.specs.Below.{_and_}
-use Rattle.masks.specs.declared.lines.Line.{Line}
-use Rattle.masks.specs.Algorithm.Places.{occupied, conflictPlaces, agreePlaces}
+use Rattle.masks.specs.Algorithm.Places.{bothKinds}
 use Rattle.snp_removal.proofs.PairLaws.{follows-none, follows-last}
 use Rattle.snp_removal.proofs.columns.may_follow.Statement.{statement}
 use Rattle.snp_removal.proofs.columns.may_follow.Tie as tie
@@ -15,7 +13,7 @@ returns c = follows-none _ _ _ (c .if1 .taken)
 returns-2 : tie.Need-returns-2
 returns-2 c =
     follows-last _ _ _ _ (c .before .before .before .if1 .left)
-    (c .columns-conflict .ensures ∙ ap₂ (λ (x y : Line). occupied (agreePlaces x y) and occupied (conflictPlaces x y)) (c .before .before .line-at .ensures) (c .before .line-at2 .ensures))
+    (c .columns-conflict .ensures ∙ ap₂ bothKinds (c .before .before .line-at .ensures) (c .before .line-at2 .ensures))
 
 pub may-follow-spec : {M : Type 1} → statement M
 may-follow-spec =
