@@ -17,7 +17,8 @@
  *   haplotype 1   n   1 A, 2 B (after correction, for C), 0 where no kept fragment of side 1 has a call, 3 at a removed column
  *   haplotype 2   n   the same of side 2
  *   sides         m   1 or 2, 0 for a removed fragment (by F alone)
- *   blocks        m   the position of the block's first fragment, 255 for a removed fragment; sides of different blocks say nothing of each other
+ *   blocks        m   the position of the block's first fragment, 255 for a removed fragment. A chain of kept fragments, each in conflict with the
+ *                     next on a kept column (after correction, for C), joins a block. Sides of different blocks say nothing of each other
  *
  * What a call returns. check: a verdict, 0 for yes, 1 for no, 1000 * number + place for a refusal. find: an offset. The others: a count, below
  * 2^32, or 2^32 * number + place for a refusal. The two forms differ, so each has a type, and readers by the type's name, below.

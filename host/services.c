@@ -42,7 +42,7 @@ static const uint16_t work[HAPLOTYPES_WORK] = {0}, more_work[HAPLOTYPES_WORK + 1
 static const uint8_t pair[][32] = {RECORD(1, 0, 1, 1), RECORD(2, 0, 1, 2)}; /* A, B */
 static const uint8_t pair_answer[] = {1, 1, 2, 1, 2, 0, 0}, pair_counts[] = {0, 1, 1, 0};
 static const uint8_t same[][32] = {RECORD(1, 0, 2, 5), RECORD(2, 0, 2, 5)}; /* AA, AA */
-static const uint8_t same_answer[] = {1, 1, 1, 1, 0, 0, 1, 1, 0, 0};
+static const uint8_t same_answer[] = {1, 1, 1, 1, 0, 0, 1, 1, 0, 1};
 static const uint8_t opposite[][32] = {RECORD(1, 0, 2, 5), RECORD(2, 0, 2, 10)}; /* AA, BB */
 static const uint8_t opposite_counts[] = {0, 2, 2, 0};
 static const uint8_t apart[][32] = {RECORD(1, 0, 1, 1), RECORD(2, 2, 1, 2), RECORD(3, 0, 0, 0)}; /* A--, --B, --- */
@@ -78,6 +78,8 @@ static void make_tables(void)
     memset(crowd_answer + 3, 1, 128);
     memset(wide_crowd_answer, 1, 128 + 1);
     memset(wide_crowd_answer + 3 * 128, 1, 128);
+    for (size_t i = 0; i < 128; i++) /* each a block by itself */
+        crowd_answer[3 + 128 + i] = wide_crowd_answer[3 * 128 + 128 + i] = (uint8_t)i;
     memset(long_row, 2, sizeof long_row);
     for (size_t i = 0; i < COUNT(turns); i++) {
         turns[i][0] = (uint8_t)i;

@@ -1,4 +1,4 @@
-// Components of related fragments, and the haplotypes of their sides, over a cell matrix of 128 cells to a fragment.
+// Components of fragments that conflict, the haplotypes of their sides, and the answer's bytes, over a cell matrix of 128 cells to a fragment.
 #ifndef COMPONENTS_H
 #define COMPONENTS_H
 #include "records.h"
@@ -39,5 +39,14 @@ static uint8_t haplotype_at(size_t m, const uint8_t *cells, const uint8_t *sides
 
 static void fill_haplotype(size_t m, size_t n, const uint8_t *cells, const uint8_t *cols, const uint8_t *sides, uint8_t side, uint8_t *row) {
     for (size_t c = 0; c < n; c++) row[c] = cols[c] ? haplotype_at(m, cells, sides, side, c) : NO_CALL;
+}
+
+// Keep marks, haplotypes, sides, blocks.
+static void fill_parts(size_t m, size_t n, const uint8_t *cells, const uint8_t *cols, const uint8_t *sides, const uint8_t *blocks, uint8_t *answer) {
+    memcpy(answer, cols, n);
+    fill_haplotype(m, n, cells, cols, sides, 1, answer + n);
+    fill_haplotype(m, n, cells, cols, sides, 2, answer + 2 * n);
+    memcpy(answer + 3 * n, sides, m);
+    memcpy(answer + 3 * n + m, blocks, m);
 }
 #endif

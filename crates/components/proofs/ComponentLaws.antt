@@ -114,13 +114,6 @@ together-tie e (inl a) (inr b) d = omega arith
 together-tie e (inr a) (inl b) d = omega arith
 together-tie e (inr a) (inr b) d = omega arith
 
--- two members of one component: on one side now exactly if in every lawful list
-one-side : {sa sb xa xb y : ℕ} → Tied sa xa y → Tied sb xb y → (sa ≡ sb → xa ≡ xb) × (xa ≡ xb → sa ≡ sb)
-one-side (inl a) (inl b) = (λ e. omega arith, λ e. omega arith)
-one-side (inl a) (inr b) = (λ e. absurd (omega arith), λ e. absurd (omega arith))
-one-side (inr a) (inl b) = (λ e. absurd (omega arith), λ e. absurd (omega arith))
-one-side (inr a) (inr b) = (λ e. omega arith, λ e. omega arith)
-
 -- ---- the verdict
 
 verdict-map : (ok : Bool) {A B A′ B′ : Type 0} → (A → A′) → (B → B′) → ByVerdict ok A B → ByVerdict ok A′ B′
@@ -161,12 +154,6 @@ module _ (m : ℕ) (few : m ≤ 128) (kept : ℕ → Bool) (pair : ℕ → ℕ �
       off = λ a ha n. off a ha n .1;
     };
   }
-
-  -- in every list lawful for the pairs passed, two members of one component are together exactly if their present sides are equal
-  pub together-exactly : {k : ℕ} {l s : ℕ → ℕ} → Sided m kept pair k l s → (x : ℕ → ℕ) → Splits m kept pair k x
-      → (a b : ℕ) → a < m → b < m → T (kept a) → T (kept b) → l a ≡ l b → (s a ≡ s b → x a ≡ x b) × (x a ≡ x b → s a ≡ s b)
-  together-exactly {l = l} {s} sd x h a b ha hb ka kb e =
-      one-side {sa = s a} {xa = x a} {y = x (l b)} (rw e at (sd .forced x h a ha ka)) (sd .forced x h b hb kb)
 
   module _ {k : ℕ} {ok : Bool} {l s : ℕ → ℕ} (st : State m kept pair k ok l s) where
     -- what holds of the pairs before place k, and of the pair at it, holds of those before place k + 1

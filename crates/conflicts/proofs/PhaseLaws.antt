@@ -12,13 +12,13 @@ use Rattle.below.specs.Below.{if_then_else_, _==_, _<?_, _and_, _or_, isnt, any
 use Rattle.records.specs.Record.{isCall}
 use Rattle.below.proofs.BelowLaws.{both, left-of, right-of, if-ind, if-true, if-false, ==-eq, ==-refl, lt-<?, anyBelow-at, anyBelow-of, length-tab, getD-tab}
 use Rattle.conflicts.specs.Choice.{first, marked}
-use Rattle.conflicts.specs.Grid.{Grid, conflictOn}
+use Rattle.conflicts.specs.Grid.{Grid, callsConflict, conflictOn, conflictOnKept}
 use Rattle.conflicts.specs.Sides.{lawful}
 use Rattle.conflicts.specs.Haplotypes.{sideCall, haplotype, haplotypes}
 use Rattle.conflicts.specs.Blocks.{linked, Chain, reached, lowest, block}
 use Rattle.conflicts.specs.Answer.{answer, keepMarkIn, sideIn, blockIn}
 use Rattle.conflicts.specs.Phased.{Haplotyped, linkedIn, Blocked, Phased}
-use Rattle.conflicts.proofs.GridLaws.{hole-no-call, calls-agree}
+use Rattle.conflicts.proofs.GridLaws.{hole-no-call, calls-agree, conflict-back}
 use Rattle.conflicts.proofs.ChoiceLaws.{some-of, first-is}
 use Rattle.conflicts.proofs.OrderLaws.{tab-mem, mem-tab}
 use Rattle.conflicts.proofs.SideLaws.{lawful-at}
@@ -35,9 +35,9 @@ same-letter : haplotypes 2 (rows 2 2 (1 ∷ 1 ∷ 1 ∷ 0 ∷ [])) (1 ∷ 1 ∷ 
 unfolding rows _==_ _<?_ _or_ isCall tab concat first marked sideCall haplotype haplotypes
 same-letter = refl
 
--- A-, AA, -A without column 0: the first is a block by itself
-split : tab 3 (block (rows 3 2 (1 ∷ 0 ∷ 1 ∷ 1 ∷ 0 ∷ 1 ∷ [])) (0 ∷ 1 ∷ []) (1 ∷ 1 ∷ 1 ∷ [])) ≡ 0 ∷ 1 ∷ 1 ∷ []
-unfolding rows _==_ _<?_ _and_ _or_ isCall anyBelow firstBelow tab marked linked reached lowest block
+-- A-, BA, -B without column 0: the first is a block by itself
+split : tab 3 (block (rows 3 2 (1 ∷ 0 ∷ 2 ∷ 1 ∷ 0 ∷ 2 ∷ [])) (0 ∷ 1 ∷ []) (1 ∷ 1 ∷ 2 ∷ [])) ≡ 0 ∷ 1 ∷ 1 ∷ []
+unfolding rows _==_ _<?_ _and_ _or_ anyBelow firstBelow tab marked callsConflict conflictOn conflictOnKept linked reached lowest block
 split = refl
 
 first-none : {A : Type 0} (p : A → Bool) (xs : List A) (d : A) → ((y : A) → List·Memᴰ y xs → T (p y) → ⊥) → first p xs d ≡ d
@@ -90,13 +90,12 @@ module _ (g : Grid) (cols sides : List ℕ) (law : T (lawful g cols sides)) (s c
 -- ---- blocks
 
 linked-back : (g : Grid) (cols sides : List ℕ) (a b : ℕ) → T (linked g cols sides a b) → T (linked g cols sides b a)
-unfolding linked
+unfolding linked conflictOnKept conflictOn
 linked-back g cols sides a b t =
     let on = left-of _ _ t in
     let w = anyBelow-at (g .n) _ (right-of _ _ t) in
-    let k = left-of _ _ (w .2) in
     both _ _ (both _ _ (right-of _ _ on) (left-of _ _ on))
-    (anyBelow-of (g .n) _ (w .0) (w .1) (both _ _ (both _ _ (left-of _ _ k) (right-of _ _ (w .2))) (right-of _ _ k)))
+    (anyBelow-of (g .n) _ (w .0) (w .1) (both _ _ (left-of _ _ (w .2)) (conflict-back _ _ (right-of _ _ (w .2)))))
 
 -- ---- the answer
 

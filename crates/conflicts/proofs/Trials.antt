@@ -1,4 +1,4 @@
--- Paper 01's trials marked P, and then others that tell right programs from wrong ones, from the bytes given to everything that a call leaves: computed statements.
+-- Paper 01's trials marked P, with the blocks of paper 02's T-04, and then others that tell right programs from wrong ones, from the bytes given to everything that a call leaves: computed statements.
 -- An answer is written as the listing prints it after the service's letter: count, keep marks, haplotype 1, haplotype 2, sides, blocks (paper 01, "The listing program").
 -- Assumes nothing.
 use mathlib.Core.Path.{_≡_, refl}
@@ -68,11 +68,11 @@ pTrials =
     ∷ answers (SOn 1 pair) "0 1 A B 12 0,0"
     ∷ answers (FOn 1 pair) "0 1 A B 12 0,0"
     ∷ corrects (COn 1 pair) "0 1 A B 12 0,0" pair
-    -- P "AA and AA: yes, sides 11, haplotypes AA and --, one block"
-    ∷ answers (checkOn 2 same) "0 11 AA -- 11 0,0"
-    ∷ answers (SOn 2 same) "0 11 AA -- 11 0,0"
-    ∷ answers (FOn 2 same) "0 11 AA -- 11 0,0"
-    ∷ corrects (COn 2 same) "0 11 AA -- 11 0,0" same
+    -- P "AA and AA: yes, sides 11, haplotypes AA and --"; T-04: "AA and AA become two blocks"
+    ∷ answers (checkOn 2 same) "0 11 AA -- 11 0,1"
+    ∷ answers (SOn 2 same) "0 11 AA -- 11 0,1"
+    ∷ answers (FOn 2 same) "0 11 AA -- 11 0,1"
+    ∷ corrects (COn 2 same) "0 11 AA -- 11 0,1" same
     -- P "AA, AB, BA: no; S 1, keeps column 0, sides 112; C 1"
     ∷ keeps (checkOn 2 three) (accepted 1)
     ∷ answers (SOn 2 three) "1 10 A# B# 112 0,0,0"
@@ -125,7 +125,15 @@ apart = tableFrom 1 "A-, -A"
 
 -- a chain whose link comes last
 bridged : List ℕ
-bridged = tableFrom 1 "A-, -A, AA"
+bridged = tableFrom 1 "A-, -A, BB"
+
+-- shared calls join them, and conflicts do not
+agreeing : List ℕ
+agreeing = tableFrom 1 "A-, -A, AA"
+
+-- its last fragment conflicts only on a column that S removes, and agrees with the third
+outside : List ℕ
+outside = tableFrom 1 "AA-, AB-, BAA, -AA"
 
 -- a short fragment inside a long one
 inside : List ℕ
@@ -164,7 +172,7 @@ aboveTrials =
 
 -- answers
 pub answerTrials : List Trial
-unfolding plain three callless apart bridged inside dangling unforced rarerA deep
+unfolding plain three callless inside unforced rarerA deep
 answerTrials =
     -- a column that no one calls is kept also where another is removed; so is a column with one letter
     answers (SOn 3 plain) "1 101 A#A B#A 112 0,0,0"
@@ -175,23 +183,36 @@ answerTrials =
     ∷ answers (SOn 2 callless) "1 10 A# B# 1112 0,1,1,1"
     ∷ answers (FOn 2 callless) "1 11 AA AB 1120 0,1,1,-"
     ∷ corrects (COn 2 callless) "1 11 AA BA 1112 0,1,1,1" (tableFrom 1 "--, AA, AA, BA")
-    -- two blocks; a chain whose link comes last; a short fragment inside a long one
-    ∷ answers (checkOn 2 apart) "0 11 AA -- 11 0,1"
-    ∷ corrects (COn 2 apart) "0 11 AA -- 11 0,1" apart
-    ∷ answers (checkOn 2 bridged) "0 11 AA -- 111 0,0,0"
+    -- a short fragment inside a long one
     ∷ answers (checkOn 4 inside) "0 1111 AAAA -BAB 122 0,0,0"
     ∷ answers (FOn 4 inside) "0 1111 AAAA -BAB 122 0,0,0"
-    -- two fragments whose only shared column S removes are in two blocks
-    ∷ answers (SOn 2 dangling) "1 10 A# B# 1121 0,0,0,3"
-    ∷ answers (FOn 2 dangling) "1 11 AA AB 1201 0,0,-,0"
-    ∷ corrects (COn 2 dangling) "1 11 AA BA 1121 0,0,0,0" (tableFrom 1 "AA, AA, BA, -A")
     -- a column may be all A: opposite letters are not forced on the haplotypes; the rarer letter can be A
     ∷ answers (checkOn 2 unforced) "0 11 AA BA 112 0,0,0"
     ∷ corrects (COn 2 unforced) "0 11 AA BA 112 0,0,0" unforced
     ∷ corrects (COn 2 rarerA) "1 11 AB BA 11212 0,0,0,0,0" (tableFrom 1 "AB, AB, BA, -B, B-")
     ∷ answers (FOn 2 rarerA) "1 11 AB BA 01212 -,1,1,1,1"
     -- nine calls in a column are no matter to check
-    ∷ answers (checkOn 2 deep) "0 11 -A -- 111111111 0,0,0,0,0,0,0,0,0"
+    ∷ answers (checkOn 2 deep) "0 11 -A -- 111111111 0,1,2,3,4,5,6,7,8"
+    ∷ []
+
+-- blocks that phase (paper 02, T-04); the printed table's, and AA and AA's, are above
+pub blockTrials : List Trial
+unfolding apart bridged agreeing dangling outside
+blockTrials =
+    -- two that share no column; a chain whose link comes last; agreements are no links
+    answers (checkOn 2 apart) "0 11 AA -- 11 0,1"
+    ∷ corrects (COn 2 apart) "0 11 AA -- 11 0,1" apart
+    ∷ answers (checkOn 2 bridged) "0 11 AA BB 112 0,0,0"
+    ∷ answers (checkOn 2 agreeing) "0 11 AA -- 111 0,1,2"
+    -- a fragment that calls only a column that S removes, and one whose only conflicts lie on it, is a block by itself
+    ∷ answers (SOn 2 dangling) "1 10 A# B# 1121 0,0,0,3"
+    ∷ answers (SOn 3 outside) "1 101 A#A B#A 1121 0,0,0,3"
+    -- F keeps the column, and with it the conflict
+    ∷ answers (FOn 2 dangling) "1 11 AA AB 1201 0,0,-,0"
+    ∷ answers (FOn 3 outside) "1 111 AAA AB- 1201 0,0,-,0"
+    -- C corrects the one call on which the last fragment conflicted with the second: they are no neighbours
+    ∷ corrects (COn 2 dangling) "1 11 AA BA 1121 0,0,0,3" (tableFrom 1 "AA, AA, BA, -A")
+    ∷ corrects (COn 3 outside) "1 111 AAA BAA 1121 0,0,0,3" (tableFrom 1 "AA-, AA-, BAA, -AA")
     ∷ []
 
 -- "document 000 shows three fragments that defeat this": judged by pairs of columns they are error-free, and they are not
@@ -335,8 +356,8 @@ hostTrials =
 
 -- all trials but paper 01's
 pub otherTrials : List Trial
-unfolding aboveTrials answerTrials pairTrials countTrials ruleTrials workTrials unpackTrials packTrials findTrials hostTrials
-otherTrials = aboveTrials ++ answerTrials ++ pairTrials ++ countTrials ++ ruleTrials ++ workTrials ++ unpackTrials ++ packTrials ++ findTrials ++ hostTrials
+unfolding aboveTrials answerTrials blockTrials pairTrials countTrials ruleTrials workTrials unpackTrials packTrials findTrials hostTrials
+otherTrials = aboveTrials ++ answerTrials ++ blockTrials ++ pairTrials ++ countTrials ++ ruleTrials ++ workTrials ++ unpackTrials ++ packTrials ++ findTrials ++ hostTrials
 
 -- all of these
 pub others-pass : failing 0 otherTrials ≡ []

@@ -1,4 +1,4 @@
--- Whole blocks turned over leave lawful sides. Of links, only that two kept fragments which conflict on a kept column have one is used.
+-- Whole blocks turned over leave lawful sides, since fragments that conflict are in one block; within a block all lawful sides agree on who is together, since each link puts two apart.
 -- Assumes nothing.
 use mathlib.Core.Path.{_≡_, refl, sym, ap, subst, subst₂, _∙_}
 use mathlib.Core.Logic.{_⊎_, inl, inr}
@@ -9,18 +9,19 @@ use native.Mathlib.Nat.{le-antisymm}
 use native.Mathlib.Omega.{arith}
 use lib.Dec.{T}
 use lib.ListN.{getD}
-use Rattle.below.specs.Below.{if_then_else_, _==_, isnt, tab}
+use Rattle.below.specs.Below.{if_then_else_, _==_, _<?_, isnt, tab}
 use Rattle.records.specs.Record.{isCall}
 use Rattle.records.specs.Table.{fragments}
-use Rattle.below.proofs.BelowLaws.{decided, both, if-ind, ==-eq, isnt-==, ne-isnt, lt-<?, anyBelow-of, getD-tab}
+use Rattle.below.proofs.BelowLaws.{decided, both, left-of, right-of, if-ind, ==-eq, isnt-==, ne-isnt, isnt-isnt, anyBelow-at, anyBelow-of, getD-tab}
 use Rattle.conflicts.specs.Choice.{marked}
-use Rattle.conflicts.specs.Grid.{Grid, gridOf, callsConflict, conflictOn}
-use Rattle.conflicts.specs.Blocks.{linked, alone, onward}
+use Rattle.conflicts.specs.Grid.{Grid, gridOf, callsConflict, conflictOn, conflictOnKept}
+use Rattle.conflicts.specs.Blocks.{linked, Chain, alone, onward}
 use Rattle.conflicts.specs.Corrections.{cost, sideLetter, differs, turned}
 use Rattle.conflicts.specs.Answer.{keepMarkIn, sideIn}
 use Rattle.conflicts.specs.Phased.{linkedIn, Blocked}
 use Rattle.conflicts.specs.Minimality.{everything, LawfulSides, ErrorFreeAnswer, SnpRemoval, FragmentRemoval, SidesCost, Corrected}
-use Rattle.conflicts.specs.Turning.{otherSide, inChosen, turnedSides, BlocksTurn, CorrectedTurn}
+use Rattle.conflicts.specs.Turning.{otherSide, inChosen, turnedSides, LawfulFor, BlocksPhase, CorrectedPhase}
+use Rattle.conflicts.proofs.KeepLaws.{isnt-zero}
 use Rattle.conflicts.proofs.GridLaws.{conflict-self}
 use Rattle.conflicts.proofs.CorrectionLaws.{conflict-calls, cost-bound}
 
@@ -42,87 +43,127 @@ one-turned : (b : Bool) (x y : ℕ) → (1 ≤ x) × (x ≤ 2) → (1 ≤ y) × 
 one-turned true x y hx hy e = let p = other-on x hx in let q = other-on y hy in omega arith
 one-turned false x y hx hy e = e
 
--- ---- conflicts and links
+-- ---- links
 
--- a place that is not 0 is marked
-marked-tab : (size : ℕ) (f : ℕ → ℕ) (i : ℕ) → i < size → T (isnt (f i == 0)) → T (marked (tab size f) i)
-unfolding marked
-marked-tab size f i h t = rw (getD-tab size f i 0 h) (lt-<? 0 (f i) (let ne = isnt-== (f i) 0 t in omega arith))
+module _ (g : Grid) (bytes : List ℕ) where
+  -- a fragment that the answer keeps, and a column
+  abbrev kept : ℕ → Bool
+  kept i = isnt (sideIn (g .n) bytes i == 0)
 
--- two kept fragments that conflict on a kept column are linked
-conflict-linked : (g : Grid) (bytes : List ℕ) (i j c : ℕ) → i < g .m → j < g .m → c < g .n → T (isnt (sideIn (g .n) bytes i == 0)) → T (isnt (sideIn (g .n) bytes j == 0))
-    → T (isnt (keepMarkIn bytes c == 0)) → T (conflictOn g c i j) → T (linkedIn g bytes i j)
-unfolding linked conflictOn
-conflict-linked g bytes i j c hi hj hc ki kj kept clash =
-    let calls = conflict-calls _ _ clash in
-    both _ _ (both _ _ (marked-tab (g .m) (sideIn (g .n) bytes) i hi ki) (marked-tab (g .m) (sideIn (g .n) bytes) j hj kj))
-    (anyBelow-of (g .n) _ c hc (both _ _ (both _ _ (marked-tab (g .n) (keepMarkIn bytes) c hc kept) (calls .0)) (calls .1)))
+  abbrev keptColumn : ℕ → Bool
+  keptColumn c = isnt (keepMarkIn bytes c == 0)
 
--- ---- blocks turned over
+  -- a place that is not 0 is marked
+  marked-tab : (size : ℕ) (f : ℕ → ℕ) (i : ℕ) → i < size → marked (tab size f) i ≡ isnt (f i == 0)
+  unfolding marked
+  marked-tab size f i h = ap (λ (x : ℕ). 0 <? x) (getD-tab size f i 0 h) ∙ sym (isnt-zero (f i))
 
-module _ {g : Grid} {keptCols keptFrags : ℕ → Bool} {bytes : List ℕ} (blocks : Blocked g bytes) (sides : LawfulSides 2 g keptCols keptFrags (sideIn (g .n) bytes))
-    (marks : (c : ℕ) → c < g .n → T (keptCols c) → T (isnt (keepMarkIn bytes c == 0))) (chosen : ℕ → Bool) where
-  abbrev side : ℕ → ℕ
-  side i = sideIn (g .n) bytes i
+  -- two kept fragments that conflict on a kept column are linked, and no others
+  linked-of : (i j c : ℕ) → i < g .m → j < g .m → c < g .n → T (kept i) → T (kept j) → T (keptColumn c) → T (conflictOn g c i j) → T (linkedIn g bytes i j)
+  unfolding linked conflictOnKept
+  linked-of i j c hi hj hc ki kj kc clash =
+      rw (marked-tab (g .m) (sideIn (g .n) bytes) i hi, marked-tab (g .m) (sideIn (g .n) bytes) j hj)
+      (both _ _ (both _ _ ki kj) (anyBelow-of (g .n) _ c hc (rw (marked-tab (g .n) (keepMarkIn bytes) c hc) (both _ _ kc clash))))
 
-  abbrev over : ℕ → Bool
-  over i = inChosen (g .m) (g .n) bytes chosen i
+  linked-at : (i j : ℕ) → i < g .m → j < g .m → T (linkedIn g bytes i j) → T (kept i) × T (kept j) × ((c : ℕ) × (c < g .n) × T (keptColumn c) × T (conflictOn g c i j))
+  unfolding linked conflictOnKept
+  linked-at i j hi hj t =
+      let s = left-of _ _ t in
+      let w = anyBelow-at (g .n) _ (right-of _ _ t) in (
+        subst T (marked-tab (g .m) (sideIn (g .n) bytes) i hi) (left-of _ _ s),
+        subst T (marked-tab (g .m) (sideIn (g .n) bytes) j hj) (right-of _ _ s),
+        (w .0, w .1, subst T (marked-tab (g .n) (keepMarkIn bytes) (w .0) (w .1)) (left-of _ _ (w .2)), right-of _ _ (w .2)),
+      )
 
-  abbrev after : ℕ → ℕ
-  after i = turnedSides (g .m) (g .n) bytes chosen i
+  -- ---- across blocks
 
-  turned-on : (i : ℕ) → i < g .m → T (keptFrags i) → (1 ≤ after i) × (after i ≤ 2)
-  unfolding turnedSides
-  turned-on i h k =
-      let on = sides .on i h k in
-      let e = other-on (side i) on in
-      if-ind (λ x. (1 ≤ x) × (x ≤ 2)) (over i) (λ t. (omega arith, omega arith)) (λ t. on)
+  module _ (blocks : Blocked g bytes) {side : ℕ → ℕ} (law : LawfulFor g bytes side) (chosen : ℕ → Bool) where
+    abbrev over : ℕ → Bool
+    over i = inChosen (g .m) (g .n) bytes chosen i
 
-  turned-off : (i : ℕ) → i < g .m → T (isnt (keptFrags i)) → after i ≡ 0
-  unfolding turnedSides
-  turned-off i h k =
-      let off = sides .off i h k in
-      if-ind (λ x. x ≡ 0) (over i) (λ t. other-off (side i) off) (λ t. off)
+    abbrev after : ℕ → ℕ
+    after i = turnedSides (g .m) (g .n) bytes chosen side i
 
-  -- a kept fragment has a side
-  has-side : (i : ℕ) → i < g .m → T (keptFrags i) → T (isnt (side i == 0))
-  has-side i h k = ne-isnt (side i) 0 (λ e. let on = sides .on i h k in omega arith)
+    turned-on : (i : ℕ) → i < g .m → T (kept i) → (1 ≤ after i) × (after i ≤ 2)
+    unfolding turnedSides
+    turned-on i h k =
+        let on = law .on i h k in
+        let e = other-on (side i) on in
+        if-ind (λ x. (1 ≤ x) × (x ≤ 2)) (over i) (λ t. (omega arith, omega arith)) (λ t. on)
 
-  -- two kept fragments that conflict on a kept column are in one block, and turned over together
-  together : (i j c : ℕ) → i < g .m → j < g .m → c < g .n → T (keptFrags i) → T (keptFrags j) → T (keptCols c) → T (conflictOn g c i j) → over i ≡ over j
-  unfolding inChosen
-  together i j c hi hj hc ki kj kept clash =
-      let link = conflict-linked g bytes i j c hi hj hc (has-side i hi ki) (has-side j hj kj) (marks c hc kept) clash in
-      ap chosen (blocks .joined i j hi hj (has-side i hi ki) (has-side j hj kj) (onward alone hi link))
+    turned-off : (i : ℕ) → i < g .m → T (isnt (kept i)) → after i ≡ 0
+    unfolding turnedSides
+    turned-off i h k =
+        let off = law .off i h k in
+        if-ind (λ x. x ≡ 0) (over i) (λ t. other-off (side i) off) (λ t. off)
 
-  turned-apart : (i j c : ℕ) → i < g .m → j < g .m → c < g .n → T (keptFrags i) → T (keptFrags j) → T (keptCols c) → after i ≡ after j → T (conflictOn g c i j) → ⊥
-  unfolding turnedSides
-  turned-apart i j c hi hj hc ki kj kept e clash =
-      let one = subst (λ (b : Bool). (if b then otherSide (side i) else side i) ≡ after j) (together i j c hi hj hc ki kj kept clash) e in
-      sides .apart i j c hi hj hc ki kj kept (one-turned (over j) (side i) (side j) (sides .on i hi ki) (sides .on j hj kj) one) clash
+    -- two neighbours are in one block, and turned over together
+    together : (i j : ℕ) → i < g .m → j < g .m → T (kept i) → T (kept j) → T (linkedIn g bytes i j) → over i ≡ over j
+    unfolding inChosen
+    together i j hi hj ki kj link = ap chosen (blocks .joined i j hi hj ki kj (onward alone hi link))
 
-  -- the sides with the chosen blocks turned over are lawful
-  pub turned-lawful : LawfulSides 2 g keptCols keptFrags (turnedSides (g .m) (g .n) bytes chosen)
-  turned-lawful = record { on = turned-on; off = turned-off; apart = turned-apart }
+    turned-apart : (i j c : ℕ) → i < g .m → j < g .m → c < g .n → T (kept i) → T (kept j) → T (keptColumn c) → after i ≡ after j → T (conflictOn g c i j) → ⊥
+    unfolding turnedSides
+    turned-apart i j c hi hj hc ki kj kc e clash =
+        let same = together i j hi hj ki kj (linked-of i j c hi hj hc ki kj kc clash) in
+        let one = subst (λ (b : Bool). (if b then otherSide (side i) else side i) ≡ after j) same e in
+        law .apart i j c hi hj hc ki kj kc (one-turned (over j) (side i) (side j) (law .on i hi ki) (law .on j hj kj) one) clash
+
+    turned-lawful : LawfulFor g bytes after
+    turned-lawful = record { on = turned-on; off = turned-off; apart = turned-apart }
+
+  -- ---- within a block
+
+  -- neighbours are apart in all lawful sides
+  neighbours-apart : {side : ℕ → ℕ} → LawfulFor g bytes side → (i j : ℕ) → i < g .m → j < g .m → T (linkedIn g bytes i j) → side i + side j ≡ 3
+  neighbours-apart {side} law i j hi hj t =
+      let w = linked-at i j hi hj t in
+      let a = law .on i hi (w .0) in
+      let b = law .on j hj (w .1) in
+      let apart : side i ≡ side j → ⊥ = λ e. law .apart i j (w .2 .0) hi hj (w .2 .1) (w .0) (w .1) (w .2 .2) e (w .2 .3) in
+      omega arith
+
+  module _ {side other : ℕ → ℕ} (law : LawfulFor g bytes side) (law′ : LawfulFor g bytes other) where
+    -- what a chain joins is together in both, or apart in both
+    chain-holds : {i j : ℕ} → j < g .m → Chain (g .m) (linkedIn g bytes) i j → ((side i ≡ side j) × (other i ≡ other j)) ⊎ ((side i + side j ≡ 3) × (other i + other j ≡ 3))
+    chain-holds hj alone = inl (refl, refl)
+    chain-holds {i} {j} hj (onward {h} c hh t) =
+        let p = neighbours-apart law h j hh hj t in
+        let q = neighbours-apart law′ h j hh hj t in
+        elim (chain-holds hh c) [ inl e ↦ inr (omega arith, omega arith) | inr e ↦ inl (omega arith, omega arith) ]
+
+    chain-together : {i j : ℕ} → j < g .m → Chain (g .m) (linkedIn g bytes) i j → side i ≡ side j → other i ≡ other j
+    chain-together hj c e = elim (chain-holds hj c) [ inl p ↦ p .1 | inr p ↦ absurd (omega arith) ]
+
+  -- ---- the answer's own sides
+
+  own-lawful : {keptCols keptFrags : ℕ → Bool} → LawfulSides 2 g keptCols keptFrags (sideIn (g .n) bytes)
+      → ((c : ℕ) → T (keptColumn c) → T (keptCols c)) → ((i : ℕ) → T (kept i) → T (keptFrags i)) → LawfulFor g bytes (sideIn (g .n) bytes)
+  own-lawful law cols frags = record {
+    on = λ i h k. law .on i h (frags i k);
+    off = λ i h k. ==-eq _ 0 (isnt-isnt _ k);
+    apart = λ i j c hi hj hc ki kj kc. law .apart i j c hi hj hc (frags i ki) (frags j kj) (cols c kc);
+  }
+
+  phases : Blocked g bytes → LawfulFor g bytes (sideIn (g .n) bytes) → BlocksPhase g bytes
+  phases blocks own = record {
+    own = own;
+    across = λ side law. turned-lawful blocks law;
+    within = λ i j hi hj ki kj e side other law law′. chain-together law law′ hj (blocks .together i j hi hj ki kj e);
+  }
 
 -- ---- the services
 
--- a mark of 1 says kept
-one-kept : (x : ℕ) → x ≡ 1 → T (isnt (x == 0))
-one-kept x e = ne-isnt x 0 (λ z. omega arith)
-
 module _ {g : Grid} {bytes : List ℕ} where
-  -- check's sides on a yes
-  pub check-turns : ErrorFreeAnswer g bytes → BlocksTurn g everything everything bytes
-  check-turns w = record { lawful = turned-lawful (w .phased .blocks) (w .sides .fits) (λ c h t. one-kept (keepMarkIn bytes c) (w .marks c h)) }
+  -- check's answer on a yes
+  pub check-phases : ErrorFreeAnswer g bytes → BlocksPhase g bytes
+  check-phases w = phases g bytes (w .phased .blocks) (own-lawful g bytes (w .sides .fits) (λ c t. tt) (λ i t. tt))
 
-  -- S's, on its kept columns
-  pub snp-turns : {number : ℕ} → SnpRemoval g bytes number → BlocksTurn g (λ c. isnt (keepMarkIn bytes c == 0)) everything bytes
-  snp-turns w = record { lawful = turned-lawful (w .phased .blocks) (w .sides .fits) (λ c h t. t) }
+  pub snp-phases : {number : ℕ} → SnpRemoval g bytes number → BlocksPhase g bytes
+  snp-phases w = phases g bytes (w .phased .blocks) (own-lawful g bytes (w .sides .fits) (λ c t. t) (λ i t. tt))
 
-  -- F's, of its kept fragments
-  pub fragment-turns : {number : ℕ} → FragmentRemoval g bytes number → BlocksTurn g everything (λ i. isnt (sideIn (g .n) bytes i == 0)) bytes
-  fragment-turns w = record { lawful = turned-lawful (w .phased .blocks) (w .sides .fits) (λ c h t. one-kept (keepMarkIn bytes c) (w .marks c h)) }
+  pub fragment-phases : {number : ℕ} → FragmentRemoval g bytes number → BlocksPhase g bytes
+  fragment-phases w = phases g bytes (w .phased .blocks) (own-lawful g bytes (w .sides .fits) (λ c t. tt) (λ i t. t))
 
 -- ---- C
 
@@ -161,42 +202,41 @@ module _ {n : ℕ} {given bytes table : List ℕ} {number : ℕ} (w : Corrected 
         apart = λ i j c hi hj hc ki kj kept. one-letter i j c (omega arith) (omega arith) hc;
       }
 
-  corrected-blocks : BlocksTurn (gridOf n table) everything everything bytes
-  unfolding gridOf
-  corrected-blocks = record { lawful = turned-lawful (w .phased .blocks) corrected-lawful (λ c h t. one-kept (keepMarkIn bytes c) (w .marks c h)) }
+  -- a mark of 1 says kept, and so does a side
+  one-kept : (x : ℕ) → 1 ≤ x → T (isnt (x == 0))
+  one-kept x h = ne-isnt x 0 (λ e. omega arith)
 
   -- the cells that differ, turned, are the corrected table's
   as-corrected : (i j c : ℕ) → i < fragments given → j < fragments given → c < n → T (conflictOn (turned (gridOf n given) (differs (gridOf n given) (gridOf n table))) c i j) → T (conflictOn (gridOf n table) c i j)
   unfolding gridOf conflictOn
   as-corrected i j c hi hj hc t = subst₂ (λ (x y : ℕ). T (callsConflict x y)) (sym (w .turns i c hi hc)) (sym (w .turns j c hj hc)) t
 
-  module _ (chosen : ℕ → Bool) where
-    abbrev these : ℕ → ℕ
-    these = turnedSides (fragments given) n bytes chosen
-
-    these-lawful : LawfulSides 2 (gridOf n table) everything everything these
+  module _ {side : ℕ → ℕ} (law : LawfulFor (gridOf n table) bytes side) where
+    has-side : (i : ℕ) → i < fragments given → T (isnt (sideIn n bytes i == 0))
     unfolding gridOf
-    these-lawful = subst (λ (m : ℕ). LawfulSides 2 (gridOf n table) everything everything (turnedSides m n bytes chosen)) same-size (corrected-blocks .lawful chosen)
+    has-side i h = one-kept (sideIn n bytes i) (w .sides .fits .on i h .0)
 
     -- sides that are lawful in the corrected table cost at most the cells corrected, and no sides cost less
-    these-cost : SidesCost 2 (gridOf n given) number these
+    lawful-cost : SidesCost 2 (gridOf n given) number side
     unfolding gridOf
-    these-cost = record { on = on; costs = le-antisymm upper (w .cheapest these _ (record { on = on; costs = refl })) }
+    lawful-cost = record { on = on; costs = le-antisymm upper (w .cheapest side _ (record { on = on; costs = refl })) }
       where
-        on : (i : ℕ) → i < fragments given → (1 ≤ these i) × (these i ≤ 2)
-        on i h = let e = same-size in these-lawful .on i (omega arith) tt
+        on : (i : ℕ) → i < fragments given → (1 ≤ side i) × (side i ≤ 2)
+        on i h = let e = same-size in law .on i (omega arith) (has-side i h)
 
-        at : (i : ℕ) → i < fragments given → getD (tab (fragments given) these) i 0 ≡ these i
-        at i h = getD-tab (fragments given) these i 0 h
+        at : (i : ℕ) → i < fragments given → getD (tab (fragments given) side) i 0 ≡ side i
+        at i h = getD-tab (fragments given) side i 0 h
 
-        upper : cost 2 (gridOf n given) (tab (fragments given) these) ≤ number
+        upper : cost 2 (gridOf n given) (tab (fragments given) side) ≤ number
         upper =
-            subst (λ (x : ℕ). cost 2 (gridOf n given) (tab (fragments given) these) ≤ x) (w .fewest .count)
-            (cost-bound (gridOf n given) (tab (fragments given) these) 2 (λ i h. rw (at i h) (on i h)) (differs (gridOf n given) (gridOf n table)) λ i j c hi hj hc e clash.
+            subst (λ (x : ℕ). cost 2 (gridOf n given) (tab (fragments given) side) ≤ x) (w .fewest .count)
+            (cost-bound (gridOf n given) (tab (fragments given) side) 2 (λ i h. rw (at i h) (on i h)) (differs (gridOf n given) (gridOf n table)) λ i j c hi hj hc e clash.
             let m = same-size in
-            these-lawful .apart i j c (omega arith) (omega arith) hc tt tt tt (sym (at i hi) ∙ e ∙ at j hj) (as-corrected i j c hi hj hc clash))
+            let mark = w .marks c hc in
+            law .apart i j c (omega arith) (omega arith) hc (has-side i hi) (has-side j hj) (one-kept (keepMarkIn bytes c) (omega arith))
+            (sym (at i hi) ∙ e ∙ at j hj) (as-corrected i j c hi hj hc clash))
 
-  -- C's, in the corrected table and by their cost
-  pub corrected-turns : CorrectedTurn n given bytes table number
+  -- C's answer, in the corrected table
+  pub corrected-phases : CorrectedPhase n given bytes table number
   unfolding gridOf
-  corrected-turns = record { blocks = corrected-blocks; costs = these-cost }
+  corrected-phases = record { blocks = phases (gridOf n table) bytes (w .phased .blocks) (own-lawful (gridOf n table) bytes corrected-lawful (λ c t. tt) (λ i t. tt)); costs = λ side law. lawful-cost law }

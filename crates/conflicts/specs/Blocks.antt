@@ -1,18 +1,16 @@
--- Blocks (paper 01, "What the words mean").
+-- Blocks (paper 01, "What the words mean"; whose neighbours conflict: paper 02, T-04).
 -- Assumes nothing.
 use Prim.Native.Nat.{ℕ, zero, suc, _<_}
 use mathlib.Core.Bool.{Bool}
 use mathlib.Core.List.{List}
 use lib.Dec.{T}
 use Rattle.below.specs.Below.{bit, if_then_else_, _==_, _and_, _or_, anyBelow, firstBelow, tab}
-use Rattle.records.specs.Record.{isCall}
 use Rattle.conflicts.specs.Choice.{marked}
-use Rattle.conflicts.specs.Grid.{Grid}
+use Rattle.conflicts.specs.Grid.{Grid, conflictOnKept}
 
--- "neighbours": two kept fragments "sharing a column that both call and that is kept"
+-- "the neighbours in a block's chain must now conflict on a kept column": two kept fragments that do
 unfoldable pub linked : Grid → List ℕ → List ℕ → ℕ → ℕ → Bool
-linked g keepCols sides i j =
-    marked sides i and marked sides j and anyBelow (g .n) (λ c. marked keepCols c and isCall (g .cell i c) and isCall (g .cell j c))
+linked g keepCols sides i j = marked sides i and marked sides j and conflictOnKept g keepCols i j
 
 -- "a chain joins them": from i to j, each below m and linked to the next
 pub data Chain (m : ℕ) (link : ℕ → ℕ → Bool) (i : ℕ) : ℕ → Type 0 where

@@ -60,7 +60,7 @@ module _ (n m : ℕ) (table : List ℕ) (sized : SizesKept n m table) where
 
   -- the rows of the matrix of all pairs
   pub rows-count : {cells words cols frags matrix : List ℕ} {keep : Places} → cells ≡ tableCells n table → words ≡ maskWords (matrixGrid m n cells) → cols ≡ keepAll n → frags ≡ keepAll m
-      → keep ≡ placesWhere (marked cols) → matrix ≡ pairMatrix false words keep frags → rowsOf m matrix ≡ conflictCounts (gridOf n table)
+      → keep ≡ placesWhere (marked cols) → matrix ≡ pairMatrix words keep frags → rowsOf m matrix ≡ conflictCounts (gridOf n table)
   unfolding rowsOf conflictCounts gridOf matrixGrid
   rows-count {cells} {words} {cols} {frags} {matrix} {keep} ec ew ek ef ep em =
       ap concat (tab-ext m _ _ (λ i hi. tab-ext m _ _ (λ j hj. entry i j hi hj)))
@@ -72,7 +72,7 @@ module _ (n m : ℕ) (table : List ℕ) (sized : SizesKept n m table) where
           let by : Compared (matrixGrid m n cells) cols words keep = record { masks = record { few = few; narrow = sized-n sized; are = ew }; columns = ep } in
           let marked-at : (k : ℕ) → k < m → T (marked frags k) = λ k h. subst (λ (l : List ℕ). T (marked l k)) (sym ef) (kept-all m k h) in
           ap (λ (l : List ℕ). nth l (i * 128 + j)) em
-          ∙ matrix-at false words keep frags i j (omega arith) (omega arith)
+          ∙ matrix-at words keep frags i j (omega arith) (omega arith)
           ∙ number-kept by frags i j hi hj (marked-at i hi) (marked-at j hj)
           ∙ ap₂ (λ (k l : List ℕ). conflictCount (matrixGrid m n l) k i j) ek ec
           ∙ same-count i j hi hj

@@ -48,7 +48,7 @@ fn count_table(n: usize, m: usize, table: &[u8], counts: &mut [u8])
     let all = all_kept();
     fill_matrix(n, table, &mut cells);
     fill_masks(m, n, &cells, &mut masks);
-    fill_pairs(false, &masks, kept(&all[0..n]), &all[0..m], &mut matrix);
+    fill_pairs(&masks, kept(&all[0..n]), &all[0..m], &mut matrix);
     copy_rows(m, &matrix, counts);
 }
 

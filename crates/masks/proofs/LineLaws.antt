@@ -5,8 +5,7 @@ use mathlib.Core.Bool.{Bool}
 use mathlib.Core.List.{List}
 use Prim.Native.Nat.{ℕ, _+_, _*_, _/_, _%_, _≤_, _<_}
 use native.Mathlib.Omega.{arith}
-use Rattle.below.specs.Below.{_==_, _and_, _or_, nth}
-use Rattle.records.specs.Record.{isCall}
+use Rattle.below.specs.Below.{_==_, _and_, _or_, countBelow, nth}
 use Rattle.below.proofs.BelowLaws.{getD-tab}
 use Rattle.below.proofs.SearchLaws.{<?-true, <?-false}
 use Rattle.conflicts.specs.Choice.{keepAll}
@@ -16,7 +15,7 @@ use Rattle.conflicts.proofs.CountLaws.{all-counted}
 use Rattle.masks.specs.declared.lines.Line.{Line}
 use Rattle.masks.specs.declared.places.Places.{Places}
 use Rattle.masks.specs.Algorithm.Words.{wordOf, halfWord, InWord}
-use Rattle.masks.specs.Algorithm.Places.{anywhere, placesWhere, bothOf, eitherOf, size, callPlaces, conflictPlaces, agreePlaces}
+use Rattle.masks.specs.Algorithm.Places.{anywhere, placesWhere, bothOf, eitherOf, size, conflictPlaces, agreePlaces, conflictSize}
 use Rattle.masks.specs.Algorithm.Masks.{hasLetter, lineOf, maskWords, lineAt, Masks}
 use Rattle.masks.proofs.WordLaws.{word-wider, word-none}
 use Rattle.masks.proofs.PlaceLaws.{places, where-ext, upTo, both-below, either-below, some-below, size-below}
@@ -81,16 +80,17 @@ module _ (g : Grid) (i j : ℕ) (hi : i < g .m) (hj : j < g .m) where
   unfolding agreePlaces lineOf
   lines-agree = ap₂ eitherOf (meet 1 1) (meet 2 2) ∙ either-below (g .n) _ _
 
-pub line-calls : (g : Grid) (i : ℕ) → i < g .m → callPlaces (lineOf g i) ≡ placesWhere (upTo (g .n) (λ c. isCall (g .cell i c)))
-unfolding callPlaces lineOf isCall
-line-calls g i h = ap₂ eitherOf (letter-places g 1 i h) (letter-places g 2 i h) ∙ either-below (g .n) _ _
-
--- the number of conflicts over all columns
-pub all-conflicts : (g : Grid) (i j : ℕ) {words : List ℕ} → Masks g words → i < g .m → j < g .m
-    → size (bothOf (placesWhere anywhere) (conflictPlaces (lineAt words i) (lineAt words j))) ≡ conflictCount g (keepAll (g .n)) i j
-unfolding conflictOn anywhere _and_
-all-conflicts g i j masks hi hj =
-    ap (λ (p : Places). size (bothOf (placesWhere anywhere) p)) (ap₂ conflictPlaces (line-is g i masks hi) (line-is g j masks hj) ∙ lines-conflict g i j hi hj)
-    ∙ ap size (some-below (g .n) anywhere _)
+-- the number of conflicts on the columns that pass a test
+pub conflicts-where : (g : Grid) (p : ℕ → Bool) (i j : ℕ) {words : List ℕ} → Masks g words → i < g .m → j < g .m
+    → conflictSize (placesWhere p) (lineAt words i) (lineAt words j) ≡ countBelow (g .n) (λ c. p c and conflictOn g c i j)
+unfolding conflictSize conflictOn
+conflicts-where g p i j masks hi hj =
+    ap (λ (q : Places). size (bothOf (placesWhere p) q)) (ap₂ conflictPlaces (line-is g i masks hi) (line-is g j masks hj) ∙ lines-conflict g i j hi hj)
+    ∙ ap size (some-below (g .n) p _)
     ∙ size-below (g .n) _ (masks .narrow)
-    ∙ sym (all-counted g i j)
+
+-- over all columns
+pub all-conflicts : (g : Grid) (i j : ℕ) {words : List ℕ} → Masks g words → i < g .m → j < g .m
+    → conflictSize (placesWhere anywhere) (lineAt words i) (lineAt words j) ≡ conflictCount g (keepAll (g .n)) i j
+unfolding anywhere _and_
+all-conflicts g i j masks hi hj = conflicts-where g anywhere i j masks hi hj ∙ sym (all-counted g i j)

@@ -8,22 +8,22 @@ use native.Mathlib.Nat.{pos-of-ne-zero}
 use native.Mathlib.Omega.{arith}
 use lib.Dec.{T}
 use lib.ListN.{length, getD, set}
-use Rattle.below.specs.Below.{bit, if_then_else_, _<?_, _and_, anyBelow, nth}
+use Rattle.below.specs.Below.{if_then_else_, _<?_, _and_, nth}
 use Rattle.below.proofs.BelowLaws.{left-of, length-tab, getD-tab}
 use Rattle.below.proofs.SearchLaws.{<?-true, <?-false, T-true}
 use Rattle.below.proofs.FillLaws.{filled-more, filled-all}
-use Rattle.below.proofs.CountLaws.{bit-pos}
 use Rattle.conflicts.specs.Choice.{marked}
-use Rattle.conflicts.specs.Grid.{Grid, conflictOn, conflictOnKept}
+use Rattle.conflicts.specs.Grid.{Grid}
 use Rattle.conflicts.specs.Counts.{conflictCount}
+use Rattle.conflicts.specs.Blocks.{linked}
 use Rattle.conflicts.proofs.CountLaws.{kept-counted}
 use Rattle.masks.specs.declared.places.Places.{Places}
 use Rattle.masks.specs.declared.lines.Line.{Line}
-use Rattle.masks.specs.Algorithm.Places.{placesWhere, bothOf, eitherOf, size, occupied, callPlaces, conflictPlaces}
-use Rattle.masks.specs.Algorithm.Masks.{lineOf, lineAt}
-use Rattle.masks.specs.Algorithm.Pairs.{codesRelate, related, relatedNumber, pairNumber, Numbered, pairMatrix, Compared}
-use Rattle.masks.proofs.PlaceLaws.{upTo, both-comm, either-comm, both-below, some-below, size-below, occupied-below}
-use Rattle.masks.proofs.LineLaws.{line-is, lines-conflict, line-calls}
+use Rattle.masks.specs.Algorithm.Places.{bothOf, eitherOf, size, conflictPlaces, conflictSize}
+use Rattle.masks.specs.Algorithm.Masks.{lineAt}
+use Rattle.masks.specs.Algorithm.Pairs.{pairNumber, Numbered, pairMatrix, Compared}
+use Rattle.masks.proofs.PlaceLaws.{both-comm, either-comm}
+use Rattle.masks.proofs.LineLaws.{conflicts-where}
 
 -- ---- keep marks of two fragments
 
@@ -80,10 +80,9 @@ conflict-comm : (x y : Line) → conflictPlaces x y ≡ conflictPlaces y x
 unfolding conflictPlaces
 conflict-comm x y = ap₂ eitherOf (both-comm (x .a) (y .b)) (both-comm (x .b) (y .a)) ∙ either-comm _ _
 
-number-comm : (blocks : Bool) (keep : Places) (x y : Line) → relatedNumber blocks keep x y ≡ relatedNumber blocks keep y x
-unfolding relatedNumber
-number-comm true keep x y = ap (λ (p : Places). bit (occupied (bothOf keep p))) (both-comm _ _)
-number-comm false keep x y = ap (λ (p : Places). size (bothOf keep p)) (conflict-comm x y)
+size-comm : (keep : Places) (x y : Line) → conflictSize keep x y ≡ conflictSize keep y x
+unfolding conflictSize
+size-comm keep x y = ap (λ (p : Places). size (bothOf keep p)) (conflict-comm x y)
 
 and-comm : (a b : Bool) → (a and b) ≡ (b and a)
 unfolding _and_
@@ -92,67 +91,48 @@ and-comm true false = refl
 and-comm false true = refl
 and-comm false false = refl
 
-module _ (blocks : Bool) (words : List ℕ) (keep : Places) (frags : List ℕ) where
-  pub number-back : (i j : ℕ) → pairNumber blocks words keep frags i j ≡ pairNumber blocks words keep frags j i
+module _ (words : List ℕ) (keep : Places) (frags : List ℕ) where
+  pub number-back : (i j : ℕ) → pairNumber words keep frags i j ≡ pairNumber words keep frags j i
   unfolding pairNumber
-  number-back i j = ap₂ (λ (b : Bool) (k : ℕ). if b then k else 0) (and-comm (marked frags i) (marked frags j)) (number-comm blocks keep (lineAt words i) (lineAt words j))
+  number-back i j = ap₂ (λ (b : Bool) (k : ℕ). if b then k else 0) (and-comm (marked frags i) (marked frags j)) (size-comm keep (lineAt words i) (lineAt words j))
 
   -- a number over 0 is one of kept fragments
-  pub number-marked : (i j : ℕ) → T (0 <? pairNumber blocks words keep frags i j) → T (marked frags i)
+  pub number-marked : (i j : ℕ) → T (0 <? pairNumber words keep frags i j) → T (marked frags i)
   unfolding pairNumber
   number-marked i j t = left-of _ _ (left-of _ _ (subst T (kept-pos (marked frags i and marked frags j) _ refl) t))
 
   -- the number at place k
   abbrev entry : ℕ → ℕ
-  entry k = pairNumber blocks words keep frags (k / 128) (k % 128)
+  entry k = pairNumber words keep frags (k / 128) (k % 128)
 
-  pub matrix-is : {matrix : List ℕ} → Numbered (pairNumber blocks words keep frags) 16384 matrix → matrix ≡ pairMatrix blocks words keep frags
+  pub matrix-is : {matrix : List ℕ} → Numbered (pairNumber words keep frags) 16384 matrix → matrix ≡ pairMatrix words keep frags
   unfolding pairMatrix
   matrix-is {matrix} w = filled-all 16384 entry 16384 matrix (record { within = omega arith; sized = w .long; done = w .done }) (omega arith)
 
-  pub matrix-length : length (pairMatrix blocks words keep frags) ≡ 16384
+  pub matrix-length : length (pairMatrix words keep frags) ≡ 16384
   unfolding pairMatrix
   matrix-length = length-tab 16384 entry
 
-  pub matrix-at : (i j : ℕ) → i < 128 → j < 128 → getD (pairMatrix blocks words keep frags) (i * 128 + j) 0 ≡ pairNumber blocks words keep frags i j
+  pub matrix-at : (i j : ℕ) → i < 128 → j < 128 → getD (pairMatrix words keep frags) (i * 128 + j) 0 ≡ pairNumber words keep frags i j
   unfolding pairMatrix
   matrix-at i j hi hj =
       let p : (i * 128 + j) / 128 ≡ i = omega arith in
       let q : (i * 128 + j) % 128 ≡ j = omega arith in
-      getD-tab 16384 entry (i * 128 + j) 0 (omega arith) ∙ ap₂ (pairNumber blocks words keep frags) p q
+      getD-tab 16384 entry (i * 128 + j) 0 (omega arith) ∙ ap₂ (pairNumber words keep frags) p q
 
 -- ---- what the numbers say
 
 module _ {g : Grid} {cols words : List ℕ} {keep : Places} (by : Compared g cols words keep) (frags : List ℕ) (i j : ℕ) (hi : i < g .m) (hj : j < g .m) where
-  lines : {A : Type 0} (f : Line → Line → A) → f (lineAt words i) (lineAt words j) ≡ f (lineOf g i) (lineOf g j)
-  lines f = ap₂ f (line-is g i (by .masks) hi) (line-is g j (by .masks) hj)
-
-  -- the kept columns that pass a test
-  kept-places : (p : ℕ → Bool) → bothOf keep (placesWhere (upTo (g .n) p)) ≡ placesWhere (upTo (g .n) (λ c. marked cols c and p c))
-  kept-places p = ap (λ (k : Places). bothOf k (placesWhere (upTo (g .n) p))) (by .columns) ∙ some-below (g .n) (marked cols) p
-
-  conflict-size : size (bothOf keep (conflictPlaces (lineAt words i) (lineAt words j))) ≡ conflictCount g cols i j
-  unfolding conflictCount conflictOn
-  conflict-size =
-      ap (λ (p : Places). size (bothOf keep p)) (lines conflictPlaces ∙ lines-conflict g i j hi hj)
-      ∙ ap size (kept-places _)
-      ∙ size-below (g .n) _ (by .masks .narrow)
+  size-counts : conflictSize keep (lineAt words i) (lineAt words j) ≡ conflictCount g cols i j
+  unfolding conflictCount
+  size-counts = rw (by .columns) (conflicts-where g (marked cols) i j (by .masks) hi hj)
 
   -- the number of two fragments that are kept
-  pub number-kept : T (marked frags i) → T (marked frags j) → pairNumber false words keep frags i j ≡ conflictCount g cols i j
-  unfolding pairNumber relatedNumber _and_
-  number-kept ki kj = rw (T-true (marked frags i) ki, T-true (marked frags j) kj) conflict-size
+  pub number-kept : T (marked frags i) → T (marked frags j) → pairNumber words keep frags i j ≡ conflictCount g cols i j
+  unfolding pairNumber _and_
+  number-kept ki kj = rw (T-true (marked frags i) ki, T-true (marked frags j) kj) size-counts
 
-  related-pos : (blocks : Bool) → (0 <? relatedNumber blocks keep (lineAt words i) (lineAt words j)) ≡ anyBelow (g .n) (λ c. marked cols c and codesRelate blocks (g .cell i c) (g .cell j c))
-  unfolding relatedNumber codesRelate conflictOnKept conflictOn
-  related-pos true =
-      bit-pos _
-      ∙ ap (λ (p : Places). occupied (bothOf keep p)) (lines (λ x y. bothOf (callPlaces x) (callPlaces y)) ∙ ap₂ bothOf (line-calls g i hi) (line-calls g j hj) ∙ both-below (g .n) _ _)
-      ∙ ap occupied (kept-places _)
-      ∙ occupied-below (g .n) _ (by .masks .narrow)
-  related-pos false = ap (λ (k : ℕ). 0 <? k) conflict-size ∙ kept-counted g cols i j
-
-  -- a number is over 0 exactly if the two fragments are kept and a kept column relates them
-  pub number-related : (blocks : Bool) → (0 <? pairNumber blocks words keep frags i j) ≡ related blocks g cols frags i j
-  unfolding pairNumber related
-  number-related blocks = kept-pos (marked frags i and marked frags j) _ (related-pos blocks)
+  -- a number is over 0 exactly if the two fragments are kept and conflict on a kept column
+  pub number-linked : (0 <? pairNumber words keep frags i j) ≡ linked g cols frags i j
+  unfolding pairNumber linked
+  number-linked = kept-pos (marked frags i and marked frags j) _ (ap (λ (k : ℕ). 0 <? k) size-counts ∙ kept-counted g cols i j)

@@ -1,7 +1,7 @@
 // Two lines of a matrix, fragments or columns, compared by the places at which they have A and at which they have B.
 ghost use mathlib.Core.Path.{_≡_};
 ghost use Prim.Native.Nat.{_≤_};
-ghost use Rattle.masks.specs.Algorithm.Places.{size, bothOf, occupied, callPlaces, conflictPlaces, agreePlaces, bothKinds};
+ghost use Rattle.masks.specs.Algorithm.Places.{conflictPlaces, agreePlaces, conflictSize, bothKinds};
 use crate::places::Places;
 
 pub struct Line {
@@ -10,13 +10,6 @@ pub struct Line {
 }
 
 impl Line {
-    // The places that it calls.
-    pub(crate) fn calls(self) -> Places
-        ensures { λ r. ⌜ r ≡ callPlaces self ⌝ }
-    {
-        self.a.either(self.b)
-    }
-
     // The places at which one line has A and the other B.
     pub(crate) fn conflicts(self, other: Line) -> Places
         ensures { λ r. ⌜ r ≡ conflictPlaces self other ⌝ }
@@ -36,18 +29,11 @@ impl Line {
 
 // At how many of the kept places two lines conflict.
 pub fn conflict_count(first: Line, second: Line, keep: Places) -> u32
-    ensures number { λ r. ⌜ r ≡ size (bothOf keep (conflictPlaces first second)) ⌝ }
+    ensures number { λ r. ⌜ r ≡ conflictSize keep first second ⌝ }
     ensures most { λ r. ⌜ r ≤ 128 ⌝ }
 {
     let conflicts = first.conflicts(second);
     keep.both(conflicts).count()
-}
-
-// Whether both call some kept place.
-pub(crate) fn share_call(first: Line, second: Line, keep: Places) -> bool
-    ensures { λ r. ⌜ r ≡ occupied (bothOf keep (bothOf (callPlaces first) (callPlaces second))) ⌝ }
-{
-    keep.both(first.calls().both(second.calls())).any()
 }
 
 // Whether two columns are in conflict: some fragment has one letter at both, and some has two (paper 001, section 3.1).

@@ -1,32 +1,17 @@
-// Pairs of fragments: on how many kept columns two conflict, or, for blocks, whether they share a call on one.
+// Pairs of fragments: on how many kept columns two conflict.
 ghost use mathlib.Core.Path.{_≡_};
 ghost use Prim.Native.Nat.{ℕ, _+_, _*_, _<_};
 ghost use lib.ListN.{length};
-ghost use Rattle.masks.specs.Algorithm.Pairs.{relatedNumber, pairNumber, Numbered, pairMatrix};
-use crate::lines::Line;
+ghost use Rattle.masks.specs.Algorithm.Pairs.{pairNumber, Numbered, pairMatrix};
 use crate::lines::conflict_count;
-use crate::lines::share_call;
 use crate::masks::line_at;
 use crate::places::Places;
 use records::byte;
 
-// The number of two fragments.
-fn related_number(blocks: bool, first: Line, second: Line, keep: Places) -> u8
-    ensures { λ r. ⌜ r ≡ relatedNumber blocks keep first second ⌝ }
-{
-    if blocks {
-        if share_call(first, second, keep) {
-            return 1;
-        }
-        return 0;
-    }
-    conflict_count(first, second, keep) as u8
-}
-
-// The number of fragments i and j, and 0 where one of them is removed.
-fn pair_number(blocks: bool, masks: &[u64], keep: Places, frags: &[u8], i: usize, j: usize) -> u8
+// On how many kept columns fragments i and j conflict, and 0 where one of them is removed.
+fn pair_number(masks: &[u64], keep: Places, frags: &[u8], i: usize, j: usize) -> u8
     requires { ⌜ (length (now masks) ≡ 512) × (i < 128) × (j < 128) ⌝ }
-    ensures { λ r. ⌜ r ≡ pairNumber blocks (now (masks .entry)) keep (now (frags .entry)) i j ⌝ }
+    ensures { λ r. ⌜ r ≡ pairNumber (now (masks .entry)) keep (now (frags .entry)) i j ⌝ }
 {
     if byte(frags, i) == 0 {
         return 0;
@@ -34,7 +19,7 @@ fn pair_number(blocks: bool, masks: &[u64], keep: Places, frags: &[u8], i: usize
     if byte(frags, j) == 0 {
         return 0;
     }
-    related_number(blocks, line_at(masks, i), line_at(masks, j), keep)
+    conflict_count(line_at(masks, i), line_at(masks, j), keep) as u8
 }
 
 // Row i before the diagonal: the same pairs stand in the rows before it.
@@ -50,26 +35,26 @@ fn mirror_row(i: usize, matrix: &mut [u8])
 }
 
 // Row i from the diagonal on.
-fn number_row(blocks: bool, masks: &[u64], keep: Places, frags: &[u8], i: usize, matrix: &mut [u8])
-    requires { ⌜ (length (now masks) ≡ 512) × (i < 128) × Numbered (pairNumber blocks (now masks) keep (now frags)) (i * 128 + i) (now matrix) ⌝ }
-    ensures { λ _. ⌜ Numbered (pairNumber blocks (now (masks .entry)) keep (now (frags .entry))) (i * 128 + 128) (now (matrix .exit)) ⌝ }
+fn number_row(masks: &[u64], keep: Places, frags: &[u8], i: usize, matrix: &mut [u8])
+    requires { ⌜ (length (now masks) ≡ 512) × (i < 128) × Numbered (pairNumber (now masks) keep (now frags)) (i * 128 + i) (now matrix) ⌝ }
+    ensures { λ _. ⌜ Numbered (pairNumber (now (masks .entry)) keep (now (frags .entry))) (i * 128 + 128) (now (matrix .exit)) ⌝ }
 {
     let mut j = i;
     while j < 128 {
-        matrix[i * 128 + j] = pair_number(blocks, masks, keep, frags, i, j);
+        matrix[i * 128 + j] = pair_number(masks, keep, frags, i, j);
         j += 1;
     }
 }
 
 // The numbers of all pairs, 128 to a fragment, and 0 where a fragment is removed.
-pub fn fill_pairs(blocks: bool, masks: &[u64], keep: Places, frags: &[u8], matrix: &mut [u8])
+pub fn fill_pairs(masks: &[u64], keep: Places, frags: &[u8], matrix: &mut [u8])
     requires { ⌜ (length (now masks) ≡ 512) × (length (now matrix) ≡ 16384) ⌝ }
-    ensures { λ _. ⌜ now (matrix .exit) ≡ pairMatrix blocks (now (masks .entry)) keep (now (frags .entry)) ⌝ }
+    ensures { λ _. ⌜ now (matrix .exit) ≡ pairMatrix (now (masks .entry)) keep (now (frags .entry)) ⌝ }
 {
     let mut i = 0;
     while i < 128 {
         mirror_row(i, matrix);
-        number_row(blocks, masks, keep, frags, i, matrix);
+        number_row(masks, keep, frags, i, matrix);
         i += 1;
     }
 }

@@ -1,10 +1,9 @@
--- More of `conflicts`' SameLaws: matrices of one size with the same cells have the same mixed columns, depths, gaps and corrections; the same links give the same lowest fragments.
+-- More of `conflicts`' SameLaws: matrices of one size with the same cells have the same depths, gaps and corrections.
 -- Assumes nothing.
-use mathlib.Core.Path.{_≡_, sym, ap, ap₂, _∙_, fun-ext}
+use mathlib.Core.Path.{_≡_, ap, ap₂, _∙_, fun-ext}
 use mathlib.Core.Bool.{Bool}
 use mathlib.Core.List.{List, []}
-use Prim.Native.Nat.{ℕ, suc, _<_, _≤_}
-use native.Mathlib.Omega.{arith}
+use Prim.Native.Nat.{ℕ, suc, _<_}
 use lib.ListN.{getD}
 use Rattle.below.specs.Below.{nth, if_then_else_, isnt, anyBelow, _==_, _and_}
 use Rattle.records.specs.Record.{isCall}
@@ -14,28 +13,8 @@ use Rattle.conflicts.specs.Choice.{firstLeast, keepAll}
 use Rattle.conflicts.specs.Grid.{Grid, withCells, mixed, gapless, depth}
 use Rattle.conflicts.specs.Sides.{sideLists}
 use Rattle.conflicts.specs.Corrections.{correctionCost, sideCount, sidePrice, columnCost, cost, leastCostSides, majorityLetter, sideLetter, correctedCell, corrected}
-use Rattle.conflicts.specs.Blocks.{Chain, alone, onward, lowest}
 use Rattle.conflicts.specs.Answer.{answer, correctedGrid, correctionAnswer}
-use Rattle.conflicts.proofs.ReachLaws.{lowest-least, lowest-inside, lowest-chain}
 use Rattle.conflicts.proofs.SameLaws.{answer-cells}
-
--- ---- the same links
-
-module _ (m : ℕ) (p q : ℕ → ℕ → Bool) (same : (i j : ℕ) → i < m → j < m → p i j ≡ q i j) where
-  chain-alike : {i j : ℕ} → j < m → Chain m p i j → Chain m q i j
-  chain-alike hj alone = alone
-  chain-alike {i} {j} hj (onward {h} c hh t) = onward (chain-alike hh c) hh (rw (same h j hh hj) at t)
-
-  lowest-under : (i : ℕ) → i < m → lowest m q i ≤ lowest m p i
-  lowest-under i hi = lowest-least m q i hi (chain-alike (lowest-inside m p i hi) (lowest-chain m p i hi)) (lowest-inside m p i hi)
-
-pub lowest-alike : (m : ℕ) (p q : ℕ → ℕ → Bool) → ((i j : ℕ) → i < m → j < m → p i j ≡ q i j) → (i : ℕ) → i < m → lowest m p i ≡ lowest m q i
-lowest-alike m p q same i hi =
-    let a = lowest-under m p q same i hi in
-    let b = lowest-under m q p (λ j k hj hk. sym (same j k hj hk)) i hi in
-    omega arith
-
--- ---- the same cells
 
 module _ (g : Grid) (cell : ℕ → ℕ → ℕ) (same : (i c : ℕ) → i < g .m → c < g .n → g .cell i c ≡ cell i c) where
   pub depth-cells : (c : ℕ) → c < g .n → depth g c ≡ depth (withCells g cell) c

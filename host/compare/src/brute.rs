@@ -133,12 +133,13 @@ fn phased(matrix: &Matrix, count: usize, keep: Vec<bool>, sides: Vec<u8>) -> Ans
     Answer { count, keep, haplotypes, sides, blocks }
 }
 
-/// The lowest record position that a chain of kept fragments reaches, by lengthening the chains until nothing changes.
+/// The lowest record position that a chain of kept fragments reaches, each in conflict with the next on a kept column, by
+/// lengthening the chains until nothing changes.
 fn blocks(matrix: &Matrix, keep: &[bool], sides: &[u8]) -> Vec<Option<usize>> {
     let m = matrix.m();
     let kept = |f: usize| sides[f] != REMOVED_FRAGMENT;
-    let calls = |f: usize, c: usize| matrix.rows[f][c] != HOLE;
-    let neighbours = |f: usize, g: usize| (0..matrix.n).any(|c| keep[c] && calls(f, c) && calls(g, c));
+    let rows = &matrix.rows;
+    let neighbours = |f: usize, g: usize| (0..matrix.n).any(|c| keep[c] && conflict_on(&rows[f], &rows[g], c));
     let mut lowest: Vec<Option<usize>> = (0..m).map(|f| kept(f).then_some(f)).collect();
     let mut changed = true;
     while changed {

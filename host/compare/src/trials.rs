@@ -65,7 +65,7 @@ fn a_and_b_on_one_column() {
 #[test]
 fn aa_and_aa() {
     let answer = answers(&["AA", "AA"]).1.check.expect("a yes");
-    assert_eq!(answer.bytes(), [1, 1, 1, 1, 0, 0, 1, 1, 0, 0]);
+    assert_eq!(answer.bytes(), [1, 1, 1, 1, 0, 0, 1, 1, 0, 1]);
 }
 
 #[test]
@@ -86,6 +86,14 @@ fn aa_ab_ba_bb() {
     assert_eq!((corrections.count, &corrections.sides), (2, &vec![1, 1, 1, 2]));
     assert_eq!(corrections.haplotypes, [[1, 1], [2, 2]]);
     assert_eq!(brute::corrected(&matrix, &corrections.sides).rows, [[1, 1], [1, 1], [1, 1], [2, 2]]);
+}
+
+#[test]
+fn conflicts_that_are_removed_or_corrected_join_no_blocks() {
+    let (_, answers) = answers(&["AA-", "AB-", "BAA", "-AA"]);
+    assert_eq!(answers.snps.blocks, [Some(0), Some(0), Some(0), Some(3)]);
+    assert_eq!(answers.fragments.blocks, [Some(0), Some(0), None, Some(0)]);
+    assert_eq!(answers.corrections.expect("shallow").blocks, [Some(0), Some(0), Some(0), Some(3)]);
 }
 
 #[test]

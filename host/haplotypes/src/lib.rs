@@ -8,7 +8,8 @@
 //! byte from the low bits on: 0 a hole, 1 A, 2 B. It has m fragments and n columns, each at most 128.
 //!
 //! An answer is 3n + 2m bytes ([`answer_length`]): n keep marks, haplotypes 1 and 2 of n codes each (3 at a removed column), m sides (0 for a removed fragment),
-//! m blocks (255 for a removed one).
+//! m blocks (the position of the block's first fragment, 255 for a removed one). A chain of kept fragments, each in conflict with the next on a kept
+//! column (after correction, for C), joins a block, and sides of different blocks say nothing of each other.
 //!
 //! ```
 //! use haplotypes::{answer_length, check, least_snp_removal, pack, Outcome, RECORD, WORK};

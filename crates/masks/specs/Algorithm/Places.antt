@@ -32,15 +32,16 @@ size x = ones (x .low) + ones (x .high)
 unfoldable pub occupied : Places → Bool
 occupied x = not (eqb (bitOr (x .low) (x .high)) 0)
 
--- where a line calls; where two lines have two letters; where they have one
-unfoldable pub callPlaces : Line → Places
-callPlaces x = eitherOf (x .a) (x .b)
-
+-- where two lines have two letters, and where they have one
 unfoldable pub conflictPlaces : Line → Line → Places
 conflictPlaces x y = eitherOf (bothOf (x .a) (y .b)) (bothOf (x .b) (y .a))
 
 unfoldable pub agreePlaces : Line → Line → Places
 agreePlaces x y = eitherOf (bothOf (x .a) (y .a)) (bothOf (x .b) (y .b))
+
+-- at how many kept places two lines conflict
+unfoldable pub conflictSize : Places → Line → Line → ℕ
+conflictSize keep x y = size (bothOf keep (conflictPlaces x y))
 
 -- some place has one letter in both lines, and some has two
 unfoldable pub bothKinds : Line → Line → Bool

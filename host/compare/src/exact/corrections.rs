@@ -1,7 +1,7 @@
-//! C by branch and bound over the side lists of each block. Its fragments are decided by their first column. Costs only
-//! grow as fragments are added, and two parts of a block cost at least as much together as each alone, so the least cost
+//! C by branch and bound over the side lists of each part. Its fragments are decided by their first column. Costs only
+//! grow as fragments are added, and two halves of a part cost at least as much together as each alone, so the least cost
 //! of the undecided fragments by themselves is added to the bound. These least costs come from the same search, from the
-//! last fragment alone to the whole block.
+//! last fragment alone to the whole part.
 
 use super::letters::{below, members, Letters};
 use super::{block_numbers, PastLimit, Work};
@@ -24,16 +24,15 @@ struct Search<'a> {
 }
 
 pub fn answer(letters: &Letters, work: &mut Work) -> Result<Answer, PastLimit> {
-    let all = letters.all_columns();
     let mut sides = vec![1; letters.m()];
-    for block in letters.blocks(all, letters.all_fragments()) {
-        let found = first_least_sides(letters, block, work)?;
-        members(block).for_each(|f| sides[f] = found[f]);
+    for part in letters.parts() {
+        let found = first_least_sides(letters, part, work)?;
+        members(part).for_each(|f| sides[f] = found[f]);
     }
     let mut counts = Counts::none(letters.n());
     let count = (0..letters.m()).map(|f| counts.put(letters, f, sides[f])).sum();
     let haplotypes = [0, 1].map(|side| counts.of.iter().map(|column| majority(column[side])).collect());
-    let blocks = block_numbers(letters, all, &sides);
+    let blocks = block_numbers(&letters.corrected(&haplotypes, &sides), letters.all_columns(), &sides);
     Ok(Answer { count, keep: vec![true; letters.n()], haplotypes, sides, blocks })
 }
 
@@ -45,9 +44,9 @@ fn majority([a, b]: [usize; 2]) -> u8 {
     }
 }
 
-/// The sides of the block's fragments in the first side list of least cost.
-fn first_least_sides(letters: &Letters, block: u128, work: &mut Work) -> Result<Vec<u8>, PastLimit> {
-    let mut order: Vec<usize> = members(block).collect();
+/// The sides of the part's fragments in the first side list of least cost.
+fn first_least_sides(letters: &Letters, part: u128, work: &mut Work) -> Result<Vec<u8>, PastLimit> {
+    let mut order: Vec<usize> = members(part).collect();
     order.sort_by_key(|&f| (letters.calls(f).trailing_zeros(), letters.calls(f).leading_zeros()));
     let mut search = Search {
         letters,
@@ -60,7 +59,7 @@ fn first_least_sides(letters: &Letters, block: u128, work: &mut Work) -> Result<
     for from in (0..search.order.len()).rev() {
         search.find_least(from)?;
     }
-    search.first_among_equals(block)?;
+    search.first_among_equals(part)?;
     Ok(search.sides)
 }
 
@@ -99,8 +98,8 @@ impl Search<'_> {
 
     /// From a least side list to the first one: each fragment in record order moves to side 1 if a list of the same cost
     /// agrees on all fragments before.
-    fn first_among_equals(&mut self, block: u128) -> Result<(), PastLimit> {
-        for f in members(block) {
+    fn first_among_equals(&mut self, part: u128) -> Result<(), PastLimit> {
+        for f in members(part) {
             if self.sides[f] == 2 {
                 self.moved(Moving { fragment: f, settled: below(f), reach: 0 }, 0, self.least_from[0])?;
             }

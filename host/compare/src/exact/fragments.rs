@@ -5,7 +5,7 @@ use super::odd_walk::Graph;
 use super::{PastLimit, Work};
 
 struct Search<'a> {
-    /// for each fragment of the block those that it conflicts with
+    /// for each fragment of the part those that it conflicts with
     conflicts: Vec<u128>,
     fragments: usize,
     work: &'a mut Work,
@@ -19,37 +19,37 @@ struct Branch {
     left: usize,
 }
 
-/// The fragments that F removes in a block.
-pub fn first_least_removal(letters: &Letters, block: u128, work: &mut Work) -> Result<u128, PastLimit> {
-    let near = |f: usize| members(block).filter(|&g| letters.conflict(f, g) != 0).fold(0, |set, g| set | 1 << g);
-    let conflicts = (0..letters.m()).map(|f| if block >> f & 1 == 1 { near(f) } else { 0 }).collect();
-    let mut search = Search { conflicts, fragments: block.count_ones() as usize, work };
+/// The fragments that F removes in a part.
+pub fn first_least_removal(letters: &Letters, part: u128, work: &mut Work) -> Result<u128, PastLimit> {
+    let near = |f: usize| members(part).filter(|&g| letters.conflict(f, g) != 0).fold(0, |set, g| set | 1 << g);
+    let conflicts = (0..letters.m()).map(|f| if part >> f & 1 == 1 { near(f) } else { 0 }).collect();
+    let mut search = Search { conflicts, fragments: part.count_ones() as usize, work };
     let mut left = 0;
     let least = loop {
-        if let Some(kept) = search.solve(Branch { present: block, must_keep: 0, left })? {
-            break block & !kept;
+        if let Some(kept) = search.solve(Branch { present: part, must_keep: 0, left })? {
+            break part & !kept;
         }
         left += 1;
     };
-    search.first_among_equals(block, least)
+    search.first_among_equals(part, least)
 }
 
 impl Search<'_> {
     /// From a least set to the first one: each removed fragment in turn stays if a set of the same size without it agrees
     /// on all fragments before.
-    fn first_among_equals(&mut self, block: u128, least: u128) -> Result<u128, PastLimit> {
+    fn first_among_equals(&mut self, part: u128, least: u128) -> Result<u128, PastLimit> {
         let mut removed = least;
         let size = least.count_ones() as usize;
-        for f in members(block) {
+        for f in members(part) {
             if removed >> f & 1 == 0 {
                 continue;
             }
             let settled = removed & below(f);
-            let present = block & !settled;
+            let present = part & !settled;
             let must_keep = present & below(f + 1);
             let left = size - settled.count_ones() as usize;
             if let Some(kept) = self.solve(Branch { present, must_keep, left })? {
-                removed = block & !kept;
+                removed = part & !kept;
             }
         }
         Ok(removed)

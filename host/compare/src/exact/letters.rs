@@ -28,13 +28,34 @@ pub fn below(k: usize) -> u128 {
     }
 }
 
+/// The columns at which a row of codes has the letter.
+fn columns_of(codes: &[u8], letter: u8) -> u128 {
+    (0..codes.len()).filter(|&c| codes[c] == letter).fold(0, |set, c| set | 1 << c)
+}
+
+/// The sets of fragments that chains of joined ones make, the lowest first.
+fn flooded(fragments: u128, joined: impl Fn(usize, usize) -> bool) -> Vec<u128> {
+    let mut rest = fragments;
+    let mut sets = Vec::new();
+    while rest != 0 {
+        let mut set = 0;
+        let mut reached = 1 << rest.trailing_zeros();
+        while reached != 0 {
+            set |= reached;
+            rest &= !reached;
+            let next = members(rest).filter(|&g| members(reached).any(|f| joined(f, g)));
+            reached = next.fold(0, |set, g| set | 1 << g);
+        }
+        sets.push(set);
+    }
+    sets
+}
+
 impl Letters {
     pub fn new(matrix: &Matrix) -> Letters {
-        let columns =
-            |row: &Vec<u8>, letter| (0..matrix.n).filter(|&c| row[c] == letter).fold(0, |set, c| set | 1 << c);
         Letters {
-            a: matrix.rows.iter().map(|row| columns(row, A)).collect(),
-            b: matrix.rows.iter().map(|row| columns(row, B)).collect(),
+            a: matrix.rows.iter().map(|row| columns_of(row, A)).collect(),
+            b: matrix.rows.iter().map(|row| columns_of(row, B)).collect(),
             n: matrix.n,
         }
     }
@@ -68,29 +89,24 @@ impl Letters {
         self.a[f] & self.b[g] | self.b[f] & self.a[g]
     }
 
-    /// The blocks of the kept fragments on the kept columns, the lowest first.
-    pub fn blocks(&self, columns: u128, fragments: u128) -> Vec<u128> {
-        let mut rest = fragments;
-        let mut blocks = Vec::new();
-        while rest != 0 {
-            let block = self.block_of(rest.trailing_zeros() as usize, columns, rest);
-            rest &= !block;
-            blocks.push(block);
-        }
-        blocks
+    /// Parts of the fragments that share no column, the lowest first: what is least for each is least for all.
+    pub fn parts(&self) -> Vec<u128> {
+        flooded(self.all_fragments(), |f, g| self.calls(f) & self.calls(g) != 0)
     }
 
-    fn block_of(&self, first: usize, columns: u128, fragments: u128) -> u128 {
-        let mut block = 1 << first;
-        let mut reached = self.calls(first) & columns;
-        loop {
-            let touched = |&f: &usize| self.calls(f) & reached != 0;
-            let grown = members(fragments & !block).filter(touched).fold(block, |set, f| set | 1 << f);
-            if grown == block {
-                return block;
-            }
-            block = grown;
-            reached = members(block).fold(0, |set, f| set | self.calls(f)) & columns;
+    /// The blocks of the kept fragments, which chains of conflicts on the kept columns join, the lowest first.
+    pub fn blocks(&self, columns: u128, fragments: u128) -> Vec<u128> {
+        flooded(fragments, |f, g| self.conflict(f, g) & columns != 0)
+    }
+
+    /// The letters after correction: each call is that of its side's haplotype.
+    pub fn corrected(&self, haplotypes: &[Vec<u8>; 2], sides: &[u8]) -> Letters {
+        let columns = haplotypes.each_ref().map(|codes| [A, B].map(|letter| columns_of(codes, letter)));
+        let calls = |f: usize, letter: usize| self.calls(f) & columns[sides[f] as usize - 1][letter];
+        Letters {
+            a: (0..self.m()).map(|f| calls(f, 0)).collect(),
+            b: (0..self.m()).map(|f| calls(f, 1)).collect(),
+            n: self.n,
         }
     }
 

@@ -1,6 +1,6 @@
 //! Exact methods of another kind than trying every choice. Branching goes on odd cycles (S and F) and on sides (C), with the
-//! number of removals or corrections as the limit. Every block is branched by itself, since blocks share neither columns nor
-//! fragments: the least counts add up, and the first choice of the whole is the first choice of each block. S has a second
+//! number of removals or corrections as the limit. Every part is branched by itself, since parts share neither columns nor
+//! fragments: the least counts add up, and the first choice of the whole is the first choice of each part. S has a second
 //! method by pairs of columns, and F one by pairs of haplotypes. None settles a table whose search passes its limit of work.
 
 mod column_pairs;
@@ -19,8 +19,8 @@ use letters::{members, Letters};
 #[derive(Debug)]
 pub struct PastLimit;
 
-/// A node of S or F compares all pairs of the block's fragments; a node of C only adds one fragment. So S and F are
-/// limited by the pairs, to a fraction of a second for a medium block as for a full one.
+/// A node of S or F compares all pairs of the part's fragments; a node of C only adds one fragment. So S and F are
+/// limited by the pairs, to a fraction of a second for a medium part as for a full one.
 const MOST_PAIRS: u64 = 10_000_000;
 const MOST_SIDE_NODES: u64 = 10_000_000;
 const MOST_COLUMN_NODES: u64 = 1_000_000;
@@ -56,8 +56,8 @@ pub fn snps_by_branching(matrix: &Matrix) -> Option<Answer> {
     let letters = Letters::new(matrix);
     let work = &mut Work::new(MOST_PAIRS);
     let mut kept = letters.all_columns();
-    for block in letters.blocks(letters.all_columns(), letters.all_fragments()) {
-        kept &= !snps::first_least_removal(&letters, block, work).ok()?;
+    for part in letters.parts() {
+        kept &= !snps::first_least_removal(&letters, part, work).ok()?;
     }
     Some(with_columns(matrix, &letters, kept))
 }
@@ -77,8 +77,8 @@ pub fn fragments_by_branching(matrix: &Matrix) -> Option<Answer> {
     let letters = Letters::new(matrix);
     let work = &mut Work::new(MOST_PAIRS);
     let mut removed = 0;
-    for block in letters.blocks(letters.all_columns(), letters.all_fragments()) {
-        removed |= fragments::first_least_removal(&letters, block, work).ok()?;
+    for part in letters.parts() {
+        removed |= fragments::first_least_removal(&letters, part, work).ok()?;
     }
     Some(without_fragments(matrix, &letters, removed))
 }

@@ -13,7 +13,7 @@ struct Search<'a> {
     work: &'a mut Work,
 }
 
-/// What a branch has settled: the columns still there, how many more may go, and for each fragment of the block those with
+/// What a branch has settled: the columns still there, how many more may go, and for each fragment of the part those with
 /// which its conflict stays, because another branch has looked at the solutions without that conflict.
 struct Branch {
     columns: u128,
@@ -21,9 +21,9 @@ struct Branch {
     stays: Vec<u128>,
 }
 
-/// The columns that S removes in a block of fragments.
-pub fn first_least_removal(letters: &Letters, block: u128, work: &mut Work) -> Result<u128, PastLimit> {
-    let fragments: Vec<usize> = members(block).collect();
+/// The columns that S removes in a part of fragments.
+pub fn first_least_removal(letters: &Letters, part: u128, work: &mut Work) -> Result<u128, PastLimit> {
+    let fragments: Vec<usize> = members(part).collect();
     let columns = fragments.iter().fold(0, |set, &f| set | letters.calls(f));
     let mut search = Search { letters, fragments, must_keep: 0, work };
     let mut limit = 0;
@@ -60,7 +60,7 @@ impl Search<'_> {
         self.solve(Branch { columns, left, stays })
     }
 
-    /// Columns that make the block error-free, with at most `left` of the branch's columns removed.
+    /// Columns that make the part error-free, with at most `left` of the branch's columns removed.
     fn solve(&mut self, mut branch: Branch) -> Result<Option<u128>, PastLimit> {
         self.work.spend_pairs(self.fragments.len())?;
         let Some(walk) = self.graph(&branch, 0).odd_walk(1) else {
@@ -105,7 +105,7 @@ impl Search<'_> {
         bound
     }
 
-    /// The conflicts of the block, without those that lie within the used columns and could be gone.
+    /// The conflicts of the part, without those that lie within the used columns and could be gone.
     fn graph(&self, branch: &Branch, used: u128) -> Graph {
         let mut graph = Graph::new(self.fragments.len());
         for j in 0..self.fragments.len() {

@@ -11,7 +11,7 @@ type ErrorFree = (&'static str, &'static [&'static str], &'static str, &'static 
 const ERROR_FREE: [ErrorFree; 17] = [
     ("paper: no records, no columns", &[], ".", ". . . . ."),
     ("paper: A and B on one column", &["A", "B"], "01 10", "1 A B 12 0,0"),
-    ("paper: AA and AA", &["AA", "AA"], "00 00", "11 AA -- 11 0,0"),
+    ("paper, with T-04: AA and AA", &["AA", "AA"], "00 00", "11 AA -- 11 0,1"),
     ("paper: a column no one calls", &["A--", "--B"], "00 00", "111 A-B --- 11 0,1"),
     (
         "a column no one calls, between two that are mixed",
@@ -20,7 +20,7 @@ const ERROR_FREE: [ErrorFree; 17] = [
         "111 A-B B-A 1212 0,0,2,2",
     ),
     ("one B", &["B"], "0", "1 B - 1 0"),
-    ("equal fragments", &["AA", "AA", "AA"], "000 000 000", "11 AA -- 111 0,0,0"),
+    ("equal fragments", &["AA", "AA", "AA"], "000 000 000", "11 AA -- 111 0,1,2"),
     ("BB in the middle", &["AA", "BB", "AA"], "020 202 020", "11 AA BB 121 0,0,0"),
     ("BB first", &["BB", "AA", "AA"], "022 200 200", "11 BB AA 122 0,0,0"),
     (
@@ -41,10 +41,10 @@ const ERROR_FREE: [ErrorFree; 17] = [
     ("two blocks, by turns", &["--B", "BB-", "--A", "AB-"], "0010 0001 1000 0100", "111 BBB ABA 1122 0,1,0,1"),
     ("a chain", &["AB--", "-AB-", "--AB"], "010 101 010", "1111 ABAB -AB- 121 0,0,0"),
     (
-        "a chain that the last fragment joins",
+        "a chain that the last fragment joins, and a fragment that agrees with it",
         &["A---", "---A", "-B--", "AABB"],
         "0000 0001 0001 0110",
-        "1111 AB-A AABB 1112 0,0,0,0",
+        "1111 AB-A AABB 1112 0,1,1,1",
     ),
 ];
 
@@ -68,7 +68,7 @@ struct Errors {
     corrected: &'static [&'static str],
 }
 
-const ERRORS: [Errors; 14] = [
+const ERRORS: [Errors; 15] = [
     Errors {
         name: "paper: printed",
         fragments: &["AA-", "BAA", "-BB"],
@@ -162,15 +162,26 @@ const ERRORS: [Errors; 14] = [
         corrected: &["AA", "AA", "BA", "--"],
     },
     // The conflicts are 0-1 and 1-3 on column 1, 0-2 and 0-3 on column 2. Without column 2, fragment 2 has no call.
-    // C's earlier side lists, 1111, 1112 and 1121, cost 2.
+    // C's earlier side lists, 1111, 1112 and 1121, cost 2. Once its only call is corrected, fragment 1 conflicts with none.
     Errors {
         name: "short fragments inside a long one",
         fragments: &["AAAA", "-B--", "--B-", "-AB-"],
         conflict_counts: "0111 1001 1000 1100",
         s: "1 1101 AA#A -B#- 1211 0,0,2,0",
         f: "1 1111 AAAA -BB- 1220 0,0,0,-",
-        c: "1 1111 AAAA -AB- 1122 0,0,0,0",
+        c: "1 1111 AAAA -AB- 1122 0,1,0,0",
         corrected: &["AAAA", "-A--", "--B-", "-AB-"],
+    },
+    // The only conflict of fragment 3 is with fragment 1 on column 1: S removes the column, C corrects fragment 1 there,
+    // and F keeps both. C's earlier side lists, 1111 and 1112, cost 2.
+    Errors {
+        name: "a conflict that S removes and C corrects",
+        fragments: &["AA-", "AB-", "BAA", "-AA"],
+        conflict_counts: "0110 1021 1200 0100",
+        s: "1 101 A#A B#A 1121 0,0,0,3",
+        f: "1 111 AAA AB- 1201 0,0,-,0",
+        c: "1 111 AAA BAA 1121 0,0,0,3",
+        corrected: &["AA-", "AA-", "BAA", "-AA"],
     },
     // All A on both sides costs 1 in column 1; opposite letters would cost 2 or 3.
     Errors {

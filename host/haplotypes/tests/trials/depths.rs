@@ -11,13 +11,12 @@ fn fragments(groups: &[(usize, &str)]) -> Vec<String> {
     groups.iter().flat_map(|&(count, letters)| vec![letters.to_owned(); count]).collect()
 }
 
-/// The answer where every fragment with a call shares a column, in a chain, with fragment 0.
+/// The answer of As alone: no two fragments conflict, so each is a block by itself.
 fn fields(fragments: &[String]) -> String {
     let (m, n) = (fragments.len(), fragments[0].len());
     let called = |c: usize| fragments.iter().any(|letters| letters.as_bytes()[c] == b'A');
     let haplotype: String = (0..n).map(|c| if called(c) { 'A' } else { '-' }).collect();
-    let block = |i: usize| if fragments[i].contains('A') { "0".to_owned() } else { i.to_string() };
-    let blocks: Vec<String> = (0..m).map(block).collect();
+    let blocks: Vec<String> = (0..m).map(|i| i.to_string()).collect();
     format!("{} {haplotype} {} {} {}", "1".repeat(n), "-".repeat(n), "1".repeat(m), blocks.join(","))
 }
 

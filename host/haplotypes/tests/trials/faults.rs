@@ -156,7 +156,7 @@ fn tags_that_are_almost_equal() {
     let mut trials = Trials::default();
     let tags = [0, 1, 1 << 8, 1 << 16, 1 << 24, 1 << 31, u32::MAX];
     let given = Fixture::tagged(&["A"; 7], &tags);
-    trials.run_each("seven tags", &given, &Each::of_conflict_free(&given, "1 A - 1111111 0,0,0,0,0,0,0"));
+    trials.run_each("seven tags", &given, &Each::of_conflict_free(&given, "1 A - 1111111 0,1,2,3,4,5,6"));
 }
 
 /// The last of 128 records has the fault, or the tag of the first.

@@ -133,7 +133,7 @@ fn equal_long_fragments() {
     for letter in ["A", "B"] {
         let letters = letter.repeat(96);
         let given = Fixture::of(&vec![letters.clone(); 128]);
-        let blocks = joined(128, |_| Some(0));
+        let blocks = joined(128, Some);
         let fields = format!("{} {letters} {} {} {blocks}", "1".repeat(96), "-".repeat(96), "1".repeat(128));
         let name = format!("128 fragments of 96 {letter}s");
         trials.run_each(&name, &given, &Each::of_conflict_free(&given, &fields).too_deep(0));

@@ -109,7 +109,7 @@ fn rules_of_a_record_with_a_tag_twice() {
         trials.run("9", service, &twice, &Expected::refused(9, 1));
     }
     let given = Fixture::tagged(&["A----", "AAAAA", "A----"], &[10, 11, 12]);
-    trials.run_each("none", &given, &Each::of_conflict_free(&given, "11111 AAAAA ----- 111 0,0,0"));
+    trials.run_each("none", &given, &Each::of_conflict_free(&given, "11111 AAAAA ----- 111 0,1,2"));
 }
 
 /// Calls at both ends of 128 columns reach over more than 96, and are gapped. As a record they are out of frame,

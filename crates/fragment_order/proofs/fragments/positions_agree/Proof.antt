@@ -1,12 +1,10 @@
 -- `fragments::positions_agree` meets its contract.
 -- Assumes nothing.
 use borrow.Author.Needs.{needs}
-use mathlib.Core.Path.{ap, ap₂, _∙_}
+use mathlib.Core.Path.{ap}
 use Prim.Native.Nat.{ℕ}
 use lib.Dec.{eqb}
 use Rattle.below.specs.Below.{_==_}
-use Rattle.masks.specs.declared.places.Places.{Places}
-use Rattle.masks.specs.Algorithm.Places.{size, bothOf, conflictPlaces}
 use Rattle.fragment_order.specs.Algorithm.Fragments.{wordsAgree}
 use Rattle.fragment_order.proofs.fragments.positions_agree.Statement.{statement}
 use Rattle.fragment_order.proofs.fragments.positions_agree.Tie as tie
@@ -14,8 +12,8 @@ use Rattle.fragment_order.proofs.fragments.positions_agree.Tie as tie
 returns : tie.Need-returns
 unfolding wordsAgree _==_
 returns c =
-    ap (λ (k : ℕ). eqb k 0)
-    (c .conflict-count .ensures .0 ∙ ap₂ (λ (p q : Places). size (bothOf p q)) (c .before .all .ensures) (ap₂ conflictPlaces (c .before .before .before .line-at .ensures) (c .before .before .line-at2 .ensures)))
+    rw (← c .before .all .ensures, ← c .before .before .before .line-at .ensures, ← c .before .before .line-at2 .ensures)
+    (ap (λ (k : ℕ). eqb k 0) (c .conflict-count .ensures .0))
 
 pub positions-agree-spec : {M : Type 1} → statement M
 positions-agree-spec =

@@ -2,11 +2,12 @@
 -- Assumes nothing.
 use borrow.Author.Needs.{needs}
 use mathlib.Core.Path.{ap, _∙_}
-use Rattle.masks.specs.Algorithm.Places.{size, bothOf}
+use Rattle.masks.specs.Algorithm.Places.{size, bothOf, conflictSize}
 use Rattle.masks.proofs.lines.conflict_count.Statement.{statement}
 use Rattle.masks.proofs.lines.conflict_count.Tie as tie
 
 returns : tie.Need-returns
+unfolding conflictSize
 returns c =
     let a = c .before .before .before .args in
     (c .count .ensures .0 ∙ ap size (c .before .both .ensures ∙ ap (bothOf (a .keep)) (c .before .before .conflicts .ensures)), c .count .ensures .1)

@@ -9,10 +9,10 @@ use Rattle.masks.proofs.pairs.fill_pairs.Statement.{statement}
 use Rattle.masks.proofs.pairs.fill_pairs.Tie as tie
 
 abbrev Inv-loop : tie.InvT-loop
-Inv-loop blocks masks keep frags matrix₀ i₀ matrix i = (i ≤ 128) × Numbered (pairNumber blocks masks keep frags) (i * 128) matrix
+Inv-loop masks keep frags matrix₀ i₀ matrix i = (i ≤ 128) × Numbered (pairNumber masks keep frags) (i * 128) matrix
 
 abbrev μ-loop : tie.MeasureT-loop
-μ-loop blocks masks keep frags matrix₀ i₀ matrix i = 128 - i
+μ-loop masks keep frags matrix₀ i₀ matrix i = 128 - i
 
 loop-holds : tie.Need-loop-holds Inv-loop μ-loop
 loop-holds c = (search needs, numbered-none (c .before .before .before .pre .1))
@@ -23,7 +23,7 @@ mirror-row-requires c κs = let e = c .before .before .loop .inv .1 .long in sea
 number-row-requires : tie.Need-number-row-requires Inv-loop μ-loop
 number-row-requires c κs =
     let a = c .before .before .before .before .before .before .before .before .before .before .args in
-    (c .before .before .before .before .before .before .before .before .before .before .pre .0, c .before .before .before .before .before .loop-test .taken, c .before .before .before .mirror-row .ensures _ (number-back (a .blocks) (a .masks .now) (a .keep) (a .frags .now)) (c .before .before .before .before .before .before .loop .inv .1))
+    (c .before .before .before .before .before .before .before .before .before .before .pre .0, c .before .before .before .before .before .loop-test .taken, c .before .before .before .mirror-row .ensures _ (number-back (a .masks .now) (a .keep) (a .frags .now)) (c .before .before .before .before .before .before .loop .inv .1))
 
 loop-again : tie.Need-loop-again Inv-loop μ-loop
 loop-again c = (search needs, numbered-to (omega arith) (c .before .before .number-row .ensures))
@@ -35,7 +35,7 @@ returns : tie.Need-returns Inv-loop μ-loop
 returns c =
     let l = c .before .loop in
     let a = c .before .before .before .before .before .args in
-    matrix-is (a .blocks) (a .masks .now) (a .keep) (a .frags .now) (numbered-to (omega (arith, l .inv .0, c .loop-test .left)) (l .inv .1))
+    matrix-is (a .masks .now) (a .keep) (a .frags .now) (numbered-to (omega (arith, l .inv .0, c .loop-test .left)) (l .inv .1))
 
 pub fill-pairs-spec : {M : Type 1} → statement M
 fill-pairs-spec =

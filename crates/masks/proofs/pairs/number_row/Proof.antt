@@ -10,10 +10,10 @@ use Rattle.masks.proofs.pairs.number_row.Statement.{statement}
 use Rattle.masks.proofs.pairs.number_row.Tie as tie
 
 abbrev Inv-loop : tie.InvT-loop
-Inv-loop blocks masks keep frags i matrix₀ j₀ matrix j = (i ≤ j) × (j ≤ 128) × Numbered (pairNumber blocks masks keep frags) (i * 128 + j) matrix
+Inv-loop masks keep frags i matrix₀ j₀ matrix j = (i ≤ j) × (j ≤ 128) × Numbered (pairNumber masks keep frags) (i * 128 + j) matrix
 
 abbrev μ-loop : tie.MeasureT-loop
-μ-loop blocks masks keep frags i matrix₀ j₀ matrix j = 128 - j
+μ-loop masks keep frags i matrix₀ j₀ matrix j = 128 - j
 
 loop-holds : tie.Need-loop-holds Inv-loop μ-loop
 loop-holds c = (search needs, search needs, c .before .before .before .pre .2)
