@@ -5,8 +5,9 @@ use mathlib.Core.Bool.{Bool}
 use mathlib.Core.List.{List}
 use Prim.Native.Nat.{ℕ, _+_, _*_, _/_, _%_, _≤_, _<_}
 use native.Mathlib.Omega.{arith}
+use lib.ListN.{length}
 use Rattle.below.specs.Below.{_==_, _and_, _or_, countBelow, nth}
-use Rattle.below.proofs.BelowLaws.{getD-tab}
+use Rattle.below.proofs.BelowLaws.{length-tab, getD-tab}
 use Rattle.below.proofs.SearchLaws.{<?-true, <?-false}
 use Rattle.conflicts.specs.Choice.{keepAll}
 use Rattle.conflicts.specs.Grid.{Grid, callsConflict, conflictOn}
@@ -33,6 +34,10 @@ unfolding halfWord hasLetter _and_
 line-part g letter i h size l part =
     word-wider size 64 _ _ (part .small) (λ b u. rw (<?-true i (g .m) l, <?-true (h * 64 + b) (g .n) (part .inside b u)))
     (λ b u v. rw (<?-true i (g .m) l, <?-false (h * 64 + b) (g .n) (part .outside b u v)))
+
+pub words-length : (g : Grid) → length (maskWords g) ≡ 512
+unfolding maskWords
+words-length g = length-tab 512 _
 
 -- word k of all
 abbrev pub maskWord : Grid → ℕ → ℕ

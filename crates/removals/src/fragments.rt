@@ -12,6 +12,8 @@ ghost use Rattle.matrix.specs.Algorithm.Cells.{tableCells};
 ghost use Rattle.records.specs.Algorithm.Kept.{SizesKept, RecordsKept};
 ghost use Rattle.removals.specs.Meanings.{FragmentSays};
 use fragment_removal::fragment_keep_marks;
+use masks::fill_masks;
+use masks::mask_room;
 use matrix::all_kept;
 use matrix::blank_cells;
 use matrix::fill_matrix;
@@ -39,9 +41,11 @@ fn phase_fragments(
     ensures work { λ _. ⌜ now (work .exit) ≡ replicate (length (now (work .entry))) 0 ⌝ }
     ensures answer { λ _. ⌜ now (answer .exit) ≡ fragmentAnswer (gridOf n (now (table .entry))) ⌝ }
 {
+    let mut masks = mask_room();
+    fill_masks(m, n, cells, &mut masks);
+    let count = fragment_keep_marks(m, n, cells, &masks, work, keep);
     let cols = all_kept();
-    let count = fragment_keep_marks(m, n, cells, work, keep);
-    phase(m, n, cells, &cols[0..n], keep, answer);
+    phase(m, n, cells, &masks, &cols[0..n], keep, answer);
     count
 }
 
@@ -62,7 +66,7 @@ fn remove_fragments(n: usize, m: usize, table: &[u8], work: &mut [u16], answer: 
 }
 
 // Accepted with the number of removed fragments, the answer's 3n + 2m bytes, and the work all zero. A refusal writes nothing.
-// Takes 309 KB of stack, 266 of them for the words of its programme's weights: more than some systems give a thread.
+// Takes 305 KB of stack, 266 of them for the words of its programme's weights: more than some systems give a thread.
 pub fn least_fragment_removal(
     n: usize,
     table: &[u8],

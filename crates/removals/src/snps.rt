@@ -10,6 +10,8 @@ ghost use Rattle.conflicts.specs.Services.{snpRemovalLeaves};
 ghost use Rattle.matrix.specs.Algorithm.Cells.{tableCells};
 ghost use Rattle.records.specs.Algorithm.Kept.{SizesKept, RecordsKept};
 ghost use Rattle.removals.specs.Meanings.{SnpSays};
+use masks::fill_masks;
+use masks::mask_room;
 use matrix::all_kept;
 use matrix::blank_cells;
 use matrix::fill_matrix;
@@ -38,8 +40,10 @@ fn phase_kept(
     ensures count { λ r. ⌜ r ≡ zeros (snpKeepMarks (gridOf n (now (table .entry)))) ⌝ }
     ensures answer { λ _. ⌜ now (answer .exit) ≡ snpAnswer (gridOf n (now (table .entry))) ⌝ }
 {
+    let mut masks = mask_room();
     let count = snp_keep_marks(m, n, cells, keep);
-    phase(m, n, cells, keep, frags, answer);
+    fill_masks(m, n, cells, &mut masks);
+    phase(m, n, cells, &masks, keep, frags, answer);
     count
 }
 
@@ -58,7 +62,7 @@ fn remove_snps(n: usize, m: usize, table: &[u8], answer: &mut [u8]) -> usize
     phase_kept(n, m, table, &cells, &mut keep[0..n], &frags[0..m], answer)
 }
 
-// Accepted with the number of removed columns, the answer's 3n + 2m bytes, and the work all zero. A refusal writes nothing. Takes 45 KB of stack.
+// Accepted with the number of removed columns, the answer's 3n + 2m bytes, and the work all zero. A refusal writes nothing. Takes 44 KB of stack.
 pub fn least_snp_removal(n: usize, table: &[u8], work: &mut [u16], answer: &mut [u8]) -> Outcome
     ensures outcome { λ r. ⌜ outcomeOf r ≡ snpRemovalLeaves n (now (table .entry)) (now (answer .entry)) (now (work .entry)) .outcome ⌝ }
     ensures work { λ _. ⌜ now (work .exit) ≡ snpRemovalLeaves n (now (table .entry)) (now (answer .entry)) (now (work .entry)) .work ⌝ }

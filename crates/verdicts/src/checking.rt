@@ -9,6 +9,8 @@ ghost use Rattle.conflicts.specs.Services.{checkLeaves};
 ghost use Rattle.phasing.specs.Algorithm.Answer.{AnswerFound};
 ghost use Rattle.records.specs.Algorithm.Kept.{SizesKept};
 ghost use Rattle.verdicts.specs.Meanings.{CheckSays};
+use masks::fill_masks;
+use masks::mask_room;
 use matrix::all_kept;
 use matrix::blank_cells;
 use matrix::fill_matrix;
@@ -24,10 +26,12 @@ fn phase_table(n: usize, m: usize, table: &[u8], answer: &mut [u8]) -> bool
     ensures { λ r. ⌜ AnswerFound (gridOf n (now (table .entry))) (keepAll n) (keepAll m) r (now (answer .entry)) (now (answer .exit)) ⌝ }
 {
     let mut cells = blank_cells();
+    let mut masks = mask_room();
     let cols = all_kept();
     let frags = all_kept();
     fill_matrix(n, table, &mut cells);
-    phase(m, n, &cells, &cols[0..n], &frags[0..m], answer)
+    fill_masks(m, n, &cells, &mut masks);
+    phase(m, n, &cells, &masks, &cols[0..n], &frags[0..m], answer)
 }
 
 // Check once the sizes are kept: the answer's length, then the records.
