@@ -1,7 +1,9 @@
-//! How many columns two fragments conflict on, by looking at each column of every two.
+//! How many columns two fragments conflict on, by looking at each column of every two; and what random tables must show
+//! of conflicts and blocks.
 
+use crate::answer::Answer;
 use crate::brute::conflict_on;
-use crate::record::Matrix;
+use crate::record::{Matrix, HOLE};
 
 /// The counts of all pairs, row by row.
 pub fn conflict_counts(matrix: &Matrix) -> Vec<u8> {
@@ -26,4 +28,21 @@ pub fn across_64(matrix: &Matrix) -> bool {
 
 fn some_two(matrix: &Matrix, holds: impl Fn(&[u8], &[u8]) -> bool) -> bool {
     (0..matrix.m()).any(|j| (0..j).any(|i| holds(&matrix.rows[i], &matrix.rows[j])))
+}
+
+/// Are two kept fragments, which both call a kept column, in two blocks of an answer?
+pub fn sharing_apart(matrix: &Matrix, answer: &Answer) -> bool {
+    let called = |one: &[u8], other: &[u8], c: usize| answer.keep[c] && one[c] != HOLE && other[c] != HOLE;
+    some_apart(matrix, answer, |one, other| (0..matrix.n).any(|c| called(one, other, c)))
+}
+
+/// Are two kept fragments, which conflict in this matrix on some column, in two blocks of an answer?
+pub fn conflicting_apart(matrix: &Matrix, answer: &Answer) -> bool {
+    some_apart(matrix, answer, |one, other| conflicts(one, other).next().is_some())
+}
+
+fn some_apart(matrix: &Matrix, answer: &Answer, holds: impl Fn(&[u8], &[u8]) -> bool) -> bool {
+    let apart =
+        |i: usize, j: usize| matches!((answer.blocks[i], answer.blocks[j]), (Some(one), Some(other)) if one != other);
+    (0..matrix.m()).any(|j| (0..j).any(|i| apart(i, j) && holds(&matrix.rows[i], &matrix.rows[j])))
 }

@@ -95,12 +95,15 @@ const fn replies(service: Service, accepted: &'static [(Verdict, usize)], refuse
 
 /// What else the calls must have seen, over all kinds. Of conflicts it is the tables that count, as each goes through a
 /// call with its own columns and exact lengths.
-const CALLED: [(Seen, usize); 9] = [
+const CALLED: [(Seen, usize); 12] = [
     (Seen::LongWork(Snps), 11500),
     (Seen::LongWork(Fragments), 11500),
     (Seen::LongWork(Corrections), 10000),
     (Seen::CountOver64, 60),
     (Seen::ConflictsAcross64, 170),
+    (Seen::SharingApart, 1400),
+    (Seen::RemovedApart, 1200),
+    (Seen::CorrectedApart, 380),
     (Seen::FoundInRagged, 700),
     (Seen::FoundPastMost, 230),
     (Seen::TableRoundTrip, 4000),

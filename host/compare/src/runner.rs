@@ -132,6 +132,10 @@ fn print_tallies(tallies: &[Tally]) {
     println!("round trips: tables {tables}, cells {cells}");
     let [over, across] = [Seen::CountOver64, Seen::ConflictsAcross64].map(|seen| all.counts.of(seen));
     println!("two fragments conflict on over 64 columns: tables {over}; on columns below 64 and from 64 on: {across}");
+    let apart = [Seen::SharingApart, Seen::RemovedApart, Seen::CorrectedApart];
+    let [sharing, removed, corrected] = apart.map(|seen| all.counts.of(seen));
+    println!("two fragments in two blocks share a kept column: tables {sharing}; conflict on a removed one: {removed}");
+    println!("two fragments in two blocks conflicted before correction: tables {corrected}");
     let settled = methods::all().map(|method| format!("{} {}", method.name, all.counts.of(Seen::By(method.name))));
     println!("settled: {}", settled.collect::<Vec<_>>().join(", "));
 }

@@ -16,6 +16,12 @@ pub enum Seen {
     CountOver64,
     /// a table with two fragments that conflict on columns below 64 and on columns from 64 on
     ConflictsAcross64,
+    /// an answer of S with two fragments in two blocks that both call a kept column
+    SharingApart,
+    /// an answer of S with two fragments in two blocks that conflict, on a removed column
+    RemovedApart,
+    /// an answer of C with two fragments in two blocks that conflicted before correction
+    CorrectedApart,
     /// a method that settled a service
     By(&'static str),
     Listing,
@@ -77,6 +83,11 @@ impl Counts {
             self.add(Seen::TooDeep, table.answers.corrections.is_err() as usize);
             self.add(Seen::CountOver64, counts::over_64(&table.matrix) as usize);
             self.add(Seen::ConflictsAcross64, counts::across_64(&table.matrix) as usize);
+            self.add(Seen::SharingApart, counts::sharing_apart(&table.matrix, &table.answers.snps) as usize);
+            self.add(Seen::RemovedApart, counts::conflicting_apart(&table.matrix, &table.answers.snps) as usize);
+            let corrected = table.answers.corrections.as_ref();
+            let apart = corrected.is_ok_and(|answer| counts::conflicting_apart(&table.matrix, answer));
+            self.add(Seen::CorrectedApart, apart as usize);
             table.by.iter().for_each(|name| self.add(Seen::By(name), 1));
         }
     }

@@ -1,7 +1,7 @@
 //! Paper 01's trials, for every method, and the counts of conflicts.
 
 use crate::answer::Answers;
-use crate::counts::{across_64, conflict_counts, over_64};
+use crate::counts::{across_64, conflict_counts, conflicting_apart, over_64, sharing_apart};
 use crate::record::{called, column_count, places_of, record, Matrix, RECORD};
 use crate::rng::Rng;
 use crate::rules::{call_fault, pack_fault, table_fault, too_deep, Refusal};
@@ -94,6 +94,21 @@ fn conflicts_that_are_removed_or_corrected_join_no_blocks() {
     assert_eq!(answers.snps.blocks, [Some(0), Some(0), Some(0), Some(3)]);
     assert_eq!(answers.fragments.blocks, [Some(0), Some(0), None, Some(0)]);
     assert_eq!(answers.corrections.expect("shallow").blocks, [Some(0), Some(0), Some(0), Some(3)]);
+}
+
+/// What a run must have seen of blocks: two that agree, one conflict that S removes and one that C corrects.
+#[test]
+fn fragments_in_two_blocks() {
+    let found = |rows: &[&str]| {
+        let (matrix, answers) = answers(rows);
+        let (snps, corrections) = (answers.snps, answers.corrections.expect("shallow"));
+        let [removed, corrected] = [&snps, &corrections].map(|answer| conflicting_apart(&matrix, answer));
+        (sharing_apart(&matrix, &snps), removed, corrected)
+    };
+    assert_eq!(found(&["AA-", "AB-", "BAA", "-AA"]), (true, true, true));
+    assert_eq!(found(&["AA", "AA"]), (true, false, false));
+    assert_eq!(found(&["A-", "-A"]), (false, false, false));
+    assert_eq!(found(&["AA", "AB", "BA"]), (false, false, false));
 }
 
 #[test]
