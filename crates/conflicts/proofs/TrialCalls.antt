@@ -136,13 +136,17 @@ freeOn n table keepCols = bit (errorFree 2 (gridOf n table) keepCols (keepAll (f
 unfoldable pub countOn : ℕ → List ℕ → List ℕ → ℕ → ℕ → ℕ
 countOn n table keepCols i j = conflictCount (gridOf n table) keepCols i j
 
+-- what sides cost in a table
+unfoldable pub costOf : ℕ → List ℕ → List ℕ → ℕ
+costOf n table sides = cost 2 (gridOf n table) sides
+
 -- a call leaves this outcome and these buffers
 left : Call → Verdict → List (List ℕ) → Bool
 left call outcome buffers = let r = leaves call in sameVerdict (r .0) outcome && sameList (sameList eqb) (r .1) buffers
 
 -- a trial passes; to unfold this unfolds all that a trial computes with
 passes : Trial → Bool
-unfolding marks cells frag tableFrom leaves workLeft lent nines work9 answer9 unpackOn checkOn countsOn SOn FOn COn answers corrects freeOn countOn left sameVerdict sameList hostRead
+unfolding marks cells frag tableFrom leaves workLeft lent nines work9 answer9 unpackOn checkOn countsOn SOn FOn COn answers corrects freeOn countOn costOf left sameVerdict sameList hostRead
     _==_ _<?_ _≤?_ _and_ _or_ isnt allBelow anyBelow sumBelow countBelow firstBelow endBelow tab tabFrom concat
     littleEndian tagOf startOf spanOf byte7Of isCall cellOf codeAt fragments recordAt partStart partLength position unpackedCells unpackedTags
     bytesOf cellBytes callsEnd callsStart callsSpan cut laidOut recordOf rowOf packed

@@ -9,7 +9,7 @@ use Rattle.records.specs.Outcome.{accepted, refused}
 use Rattle.records.proofs.TrialTools.{filled}
 use Rattle.conflicts.specs.Host.{hostCode, hostOutcome}
 use Rattle.records.proofs.TrialText.{marks, cells, frag, tableFrom}
-use Rattle.conflicts.proofs.TrialCalls.{unpack, pack, check, counts, S, F, C, leaves, nines, work9, unpackOn, checkOn, countsOn, SOn, FOn, COn, Trial, accepts, keeps, works, finds, equals, reads, answers, corrects, freeOn, countOn, failing}
+use Rattle.conflicts.proofs.TrialCalls.{unpack, pack, check, counts, S, F, C, leaves, nines, work9, unpackOn, checkOn, countsOn, SOn, FOn, COn, Trial, accepts, keeps, works, finds, equals, reads, answers, corrects, freeOn, countOn, costOf, failing}
 
 -- ---- the tables of paper 01's trials
 
@@ -197,7 +197,7 @@ answerTrials =
 
 -- blocks that phase (paper 02, T-04); the printed table's, and AA and AA's, are above
 pub blockTrials : List Trial
-unfolding apart bridged agreeing dangling outside
+unfolding four apart bridged agreeing dangling outside
 blockTrials =
     -- two that share no column; a chain whose link comes last; agreements are no links
     answers (checkOn 2 apart) "0 11 AA -- 11 0,1"
@@ -213,6 +213,9 @@ blockTrials =
     -- C corrects the one call on which the last fragment conflicted with the second: they are no neighbours
     ∷ corrects (COn 2 dangling) "1 11 AA BA 1121 0,0,0,3" (tableFrom 1 "AA, AA, BA, -A")
     ∷ corrects (COn 3 outside) "1 111 AAA BAA 1121 0,0,0,3" (tableFrom 1 "AA-, AA-, BAA, -AA")
+    -- AA, AB, BA, BB is one block of C's, and other sides of its cost put the second and the third otherwise
+    ∷ equals (costOf 2 four (marks "1112")) 2
+    ∷ equals (costOf 2 four (marks "1122")) 2
     ∷ []
 
 -- "document 000 shows three fragments that defeat this": judged by pairs of columns they are error-free, and they are not
