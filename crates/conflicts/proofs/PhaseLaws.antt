@@ -89,13 +89,24 @@ module _ (g : Grid) (cols sides : List ℕ) (law : T (lawful g cols sides)) (s c
 
 -- ---- blocks
 
+-- neighbours are two kept fragments that conflict on a kept column, and all such are neighbours
+module _ (g : Grid) (cols sides : List ℕ) (i j : ℕ) where
+  pub linked-at : T (linked g cols sides i j) → T (marked sides i) × T (marked sides j) × ((c : ℕ) × (c < g .n) × T (marked cols c) × T (conflictOn g c i j))
+  unfolding linked conflictOnKept
+  linked-at t =
+      let s = left-of _ _ t in
+      let w = anyBelow-at (g .n) _ (right-of _ _ t) in
+      (left-of _ _ s, right-of _ _ s, (w .0, w .1, left-of _ _ (w .2), right-of _ _ (w .2)))
+
+  pub linked-of : (c : ℕ) → c < g .n → T (marked sides i) → T (marked sides j) → T (marked cols c) → T (conflictOn g c i j) → T (linked g cols sides i j)
+  unfolding linked conflictOnKept
+  linked-of c hc ki kj kc clash = both _ _ (both _ _ ki kj) (anyBelow-of (g .n) _ c hc (both _ _ kc clash))
+
 linked-back : (g : Grid) (cols sides : List ℕ) (a b : ℕ) → T (linked g cols sides a b) → T (linked g cols sides b a)
-unfolding linked conflictOnKept conflictOn
+unfolding conflictOn
 linked-back g cols sides a b t =
-    let on = left-of _ _ t in
-    let w = anyBelow-at (g .n) _ (right-of _ _ t) in
-    both _ _ (both _ _ (right-of _ _ on) (left-of _ _ on))
-    (anyBelow-of (g .n) _ (w .0) (w .1) (both _ _ (left-of _ _ (w .2)) (conflict-back _ _ (right-of _ _ (w .2)))))
+    let w = linked-at g cols sides a b t in
+    linked-of g cols sides b a (w .2 .0) (w .2 .1) (w .1) (w .0) (w .2 .2) (conflict-back _ _ (w .2 .3))
 
 -- ---- the answer
 

@@ -12,10 +12,10 @@ use lib.ListN.{getD}
 use Rattle.below.specs.Below.{if_then_else_, _==_, _<?_, isnt, tab}
 use Rattle.records.specs.Record.{isCall}
 use Rattle.records.specs.Table.{fragments}
-use Rattle.below.proofs.BelowLaws.{decided, both, left-of, right-of, if-ind, ==-eq, isnt-==, ne-isnt, isnt-isnt, anyBelow-at, anyBelow-of, getD-tab}
+use Rattle.below.proofs.BelowLaws.{decided, if-ind, ==-eq, isnt-==, ne-isnt, isnt-isnt, getD-tab}
 use Rattle.conflicts.specs.Choice.{marked}
-use Rattle.conflicts.specs.Grid.{Grid, gridOf, callsConflict, conflictOn, conflictOnKept}
-use Rattle.conflicts.specs.Blocks.{linked, Chain, alone, onward}
+use Rattle.conflicts.specs.Grid.{Grid, gridOf, callsConflict, conflictOn}
+use Rattle.conflicts.specs.Blocks.{Chain, alone, onward}
 use Rattle.conflicts.specs.Corrections.{cost, sideLetter, differs, turned}
 use Rattle.conflicts.specs.Answer.{keepMarkIn, sideIn}
 use Rattle.conflicts.specs.Phased.{linkedIn, Blocked}
@@ -23,6 +23,7 @@ use Rattle.conflicts.specs.Minimality.{everything, LawfulSides, ErrorFre
 use Rattle.conflicts.specs.Turning.{otherSide, inChosen, turnedSides, LawfulFor, BlocksPhase, CorrectedPhase}
 use Rattle.conflicts.proofs.KeepLaws.{isnt-zero}
 use Rattle.conflicts.proofs.GridLaws.{conflict-self}
+use Rattle.conflicts.proofs.PhaseLaws.{linked-at, linked-of}
 use Rattle.conflicts.proofs.CorrectionLaws.{conflict-calls, cost-bound}
 
 -- ---- the other side
@@ -45,6 +46,11 @@ one-turned false x y hx hy e = e
 
 -- ---- links
 
+-- a place that is not 0 is marked
+marked-tab : (size : ℕ) (f : ℕ → ℕ) (i : ℕ) → i < size → marked (tab size f) i ≡ isnt (f i == 0)
+unfolding marked
+marked-tab size f i h = ap (λ (x : ℕ). 0 <? x) (getD-tab size f i 0 h) ∙ sym (isnt-zero (f i))
+
 module _ (g : Grid) (bytes : List ℕ) where
   -- a fragment that the answer keeps, and a column
   abbrev kept : ℕ → Bool
@@ -53,27 +59,20 @@ module _ (g : Grid) (bytes : List ℕ) where
   abbrev keptColumn : ℕ → Bool
   keptColumn c = isnt (keepMarkIn bytes c == 0)
 
-  -- a place that is not 0 is marked
-  marked-tab : (size : ℕ) (f : ℕ → ℕ) (i : ℕ) → i < size → marked (tab size f) i ≡ isnt (f i == 0)
-  unfolding marked
-  marked-tab size f i h = ap (λ (x : ℕ). 0 <? x) (getD-tab size f i 0 h) ∙ sym (isnt-zero (f i))
+  side-marked : (i : ℕ) → i < g .m → marked (tab (g .m) (sideIn (g .n) bytes)) i ≡ kept i
+  side-marked i h = marked-tab (g .m) (sideIn (g .n) bytes) i h
 
-  -- two kept fragments that conflict on a kept column are linked, and no others
-  linked-of : (i j c : ℕ) → i < g .m → j < g .m → c < g .n → T (kept i) → T (kept j) → T (keptColumn c) → T (conflictOn g c i j) → T (linkedIn g bytes i j)
-  unfolding linked conflictOnKept
-  linked-of i j c hi hj hc ki kj kc clash =
-      rw (marked-tab (g .m) (sideIn (g .n) bytes) i hi, marked-tab (g .m) (sideIn (g .n) bytes) j hj)
-      (both _ _ (both _ _ ki kj) (anyBelow-of (g .n) _ c hc (rw (marked-tab (g .n) (keepMarkIn bytes) c hc) (both _ _ kc clash))))
+  column-marked : (c : ℕ) → c < g .n → marked (tab (g .n) (keepMarkIn bytes)) c ≡ keptColumn c
+  column-marked c h = marked-tab (g .n) (keepMarkIn bytes) c h
 
-  linked-at : (i j : ℕ) → i < g .m → j < g .m → T (linkedIn g bytes i j) → T (kept i) × T (kept j) × ((c : ℕ) × (c < g .n) × T (keptColumn c) × T (conflictOn g c i j))
-  unfolding linked conflictOnKept
-  linked-at i j hi hj t =
-      let s = left-of _ _ t in
-      let w = anyBelow-at (g .n) _ (right-of _ _ t) in (
-        subst T (marked-tab (g .m) (sideIn (g .n) bytes) i hi) (left-of _ _ s),
-        subst T (marked-tab (g .m) (sideIn (g .n) bytes) j hj) (right-of _ _ s),
-        (w .0, w .1, subst T (marked-tab (g .n) (keepMarkIn bytes) (w .0) (w .1)) (left-of _ _ (w .2)), right-of _ _ (w .2)),
-      )
+  -- neighbours by the answer's own bytes
+  neighbours-of : (i j c : ℕ) → i < g .m → j < g .m → c < g .n → T (kept i) → T (kept j) → T (keptColumn c) → T (conflictOn g c i j) → T (linkedIn g bytes i j)
+  neighbours-of i j c hi hj hc ki kj kc = linked-of g _ _ i j c hc (rw (side-marked i hi) ki) (rw (side-marked j hj) kj) (rw (column-marked c hc) kc)
+
+  neighbours-at : (i j : ℕ) → i < g .m → j < g .m → T (linkedIn g bytes i j) → T (kept i) × T (kept j) × ((c : ℕ) × (c < g .n) × T (keptColumn c) × T (conflictOn g c i j))
+  neighbours-at i j hi hj t =
+      let w = linked-at g _ _ i j t in
+      (subst T (side-marked i hi) (w .0), subst T (side-marked j hj) (w .1), (w .2 .0, w .2 .1, subst T (column-marked (w .2 .0) (w .2 .1)) (w .2 .2), w .2 .3))
 
   -- ---- across blocks
 
@@ -105,7 +104,7 @@ module _ (g : Grid) (bytes : List ℕ) where
     turned-apart : (i j c : ℕ) → i < g .m → j < g .m → c < g .n → T (kept i) → T (kept j) → T (keptColumn c) → after i ≡ after j → T (conflictOn g c i j) → ⊥
     unfolding turnedSides
     turned-apart i j c hi hj hc ki kj kc e clash =
-        let same = together i j hi hj ki kj (linked-of i j c hi hj hc ki kj kc clash) in
+        let same = together i j hi hj ki kj (neighbours-of i j c hi hj hc ki kj kc clash) in
         let one = subst (λ (b : Bool). (if b then otherSide (side i) else side i) ≡ after j) same e in
         law .apart i j c hi hj hc ki kj kc (one-turned (over j) (side i) (side j) (law .on i hi ki) (law .on j hj kj) one) clash
 
@@ -117,7 +116,7 @@ module _ (g : Grid) (bytes : List ℕ) where
   -- neighbours are apart in all lawful sides
   neighbours-apart : {side : ℕ → ℕ} → LawfulFor g bytes side → (i j : ℕ) → i < g .m → j < g .m → T (linkedIn g bytes i j) → side i + side j ≡ 3
   neighbours-apart {side} law i j hi hj t =
-      let w = linked-at i j hi hj t in
+      let w = neighbours-at i j hi hj t in
       let a = law .on i hi (w .0) in
       let b = law .on j hj (w .1) in
       let apart : side i ≡ side j → ⊥ = λ e. law .apart i j (w .2 .0) hi hj (w .2 .1) (w .0) (w .1) (w .2 .2) e (w .2 .3) in

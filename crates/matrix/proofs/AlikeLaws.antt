@@ -1,16 +1,15 @@
 -- More of `conflicts`' SameLaws: matrices of one size with the same cells have the same depths, gaps and corrections.
 -- Assumes nothing.
 use mathlib.Core.Path.{_≡_, ap, ap₂, _∙_, fun-ext}
-use mathlib.Core.Bool.{Bool}
 use mathlib.Core.List.{List, []}
 use Prim.Native.Nat.{ℕ, suc, _<_}
 use lib.ListN.{getD}
-use Rattle.below.specs.Below.{nth, if_then_else_, isnt, anyBelow, _==_, _and_}
+use Rattle.below.specs.Below.{nth, if_then_else_, isnt, _==_, _and_}
 use Rattle.records.specs.Record.{isCall}
-use Rattle.below.proofs.BelowLaws.{any-ext, all-ext, sum-ext, count-ext}
+use Rattle.below.proofs.BelowLaws.{all-ext, sum-ext, count-ext}
 use Rattle.records.proofs.SoundLaws.{gap-same}
 use Rattle.conflicts.specs.Choice.{firstLeast, keepAll}
-use Rattle.conflicts.specs.Grid.{Grid, withCells, mixed, gapless, depth}
+use Rattle.conflicts.specs.Grid.{Grid, withCells, gapless, depth}
 use Rattle.conflicts.specs.Sides.{sideLists}
 use Rattle.conflicts.specs.Corrections.{correctionCost, sideCount, sidePrice, columnCost, cost, leastCostSides, majorityLetter, sideLetter, correctedCell, corrected}
 use Rattle.conflicts.specs.Answer.{answer, correctedGrid, correctionAnswer}
