@@ -312,6 +312,10 @@ pub sum-next : (i : ℕ) (f : ℕ → ℕ) → sumBelow (i + 1) f ≡ sumBelow i
 unfolding sumBelow
 sum-next i f = rw add-one
 
+pub count-none : (p : ℕ → Bool) → 0 ≡ countBelow 0 p
+unfolding countBelow sumBelow
+count-none p = refl
+
 pub count-next : (i : ℕ) (p : ℕ → Bool) → countBelow (i + 1) p ≡ countBelow i p + bit (p i)
 unfolding countBelow
 count-next i p = sum-next i (λ k. bit (p k))

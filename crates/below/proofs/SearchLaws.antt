@@ -1,13 +1,14 @@
 -- What a loop that looks for the first number to pass a test knows: nothing below its counter passes.
 -- Assumes nothing.
 use mathlib.Core.Path.{_≡_, refl, sym}
+use mathlib.Core.Logic.{_⊎_, inl, inr}
 use mathlib.Core.Bool.{Bool, true, false}
 use Prim.Native.Nat.{ℕ, _+_, _≤_, _<_}
 use native.Mathlib.Decide.{decLe}
 use native.Mathlib.Numerals.{add-one}
 use native.Mathlib.Omega.{arith}
 use lib.Dec.{T}
-use Rattle.below.specs.Below.{anyBelow, firstBelow, _==_, _<?_, _≤?_, _and_, _or_}
+use Rattle.below.specs.Below.{anyBelow, firstBelow, Lowest, _==_, _<?_, _≤?_, _and_, _or_, isnt}
 use Rattle.below.proofs.BelowLaws.{passes, fails, is-true, is-false, isnt-T, T-isnt, anyBelow-of, anyBelow-at, firstBelow-le, firstBelow-at, firstBelow-least, ==-eq, ==-refl, <?-lt, lt-<?, ≤?-le, le-≤?}
 
 -- ---- a test as an equation
@@ -89,3 +90,17 @@ module _ (n : ℕ) (p : ℕ → Bool) where
         | yes l ↦ omega arith
         | no l ↦ absurd (false-T (none .none-passes (firstBelow n p) (omega arith)) (firstBelow-at n p (omega arith)))
       ]
+
+  -- ---- the lowest that passes
+
+  first-before : (j : ℕ) → j < n → j < firstBelow n p → T (isnt (p j))
+  first-before j h l = isnt-T (p j) (λ t. let q = firstBelow-least n p j h t in absurd (omega arith))
+
+  pub first-lowest : firstBelow n p < n → Lowest n p (firstBelow n p)
+  first-lowest h = record { inside = h; holds = firstBelow-at n p h; before = λ j l. first-before j (omega arith) l }
+
+  pub first-past : n ≤ firstBelow n p → (j : ℕ) → j < n → T (isnt (p j))
+  first-past h j l = first-before j l (omega arith)
+
+  pub lowest-or-none : ((i : ℕ) × Lowest n p i) ⊎ ((j : ℕ) → j < n → T (isnt (p j)))
+  lowest-or-none = elim (decLe n (firstBelow n p)) [ yes l ↦ inr (first-past l) | no l ↦ inl (firstBelow n p, first-lowest (omega arith)) ]

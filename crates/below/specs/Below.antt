@@ -1,9 +1,9 @@
 -- Tests, sums and lists over the numbers below a bound: the vocabulary of all definitions.
 -- Assumes nothing.
-use Prim.Native.Nat.{ℕ, zero, suc, _+_, max}
+use Prim.Native.Nat.{ℕ, zero, suc, _+_, _<_, max}
 use mathlib.Core.Bool.{Bool, true, false, not, _&&_, _||_}
 use mathlib.Core.List.{List, [], _∷_, _++_}
-use lib.Dec.{leb, ltb, eqb}
+use lib.Dec.{T, leb, ltb, eqb}
 use lib.ListN.{getD}
 
 infixr 5 if_then_else_
@@ -67,6 +67,12 @@ countBelow n p = sumBelow n (λ i. bit (p i))
 unfoldable pub firstBelow : ℕ → (ℕ → Bool) → ℕ
 firstBelow zero p = 0
 firstBelow (suc n) p = let r = firstBelow n p in if r <? n then r else if p n then n else suc n
+
+-- i is the lowest number below n that passes the test
+pub record Lowest (n : ℕ) (p : ℕ → Bool) (i : ℕ) : Type 0 where
+  pub inside : i < n
+  pub holds : T (p i)
+  pub before : (j : ℕ) → j < i → T (isnt (p j))
 
 -- one more than the highest number below n that passes the test, and 0 where none does
 unfoldable pub endBelow : ℕ → (ℕ → Bool) → ℕ

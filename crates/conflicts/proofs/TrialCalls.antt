@@ -11,9 +11,9 @@ use Rattle.records.specs.Record.{littleEndian, tagOf, startOf, spanOf, byte7Of,
 use Rattle.records.specs.Table.{fragments, recordAt, partStart, partLength, position, unpackedCells, unpackedTags}
 use Rattle.records.specs.Writing.{bytesOf, cellBytes, callsEnd, callsStart, callsSpan, cut, laidOut, recordOf, rowOf, packed}
 use Rattle.records.specs.Outcome.{Verdict, accepted}
-use Rattle.records.specs.Rules.{decide, outOfFrame, strayBits, unknownCall, openEnd, gapIn, gapped, tagTwice, recordRules, tableRules, sizeRules}
+use Rattle.records.specs.Rules.{decide, outOfFrame, strayBits, unknownCall, openEnd, gapIn, gapped, tagTwice, spanRules, recordRules, gaplessRules, tableRules, gaplessTableRules, sizeRules}
 use Rattle.conflicts.specs.Choice.{choices, passing, some, first, leastOf, firstLeast, marked, zeros, keepAll, keepLists}
-use Rattle.conflicts.specs.Grid.{gridOf, withCells, callsConflict, conflictOn, conflictOnKept, depth}
+use Rattle.conflicts.specs.Grid.{gridOf, withCells, callsConflict, conflictOn, conflictOnKept, stretchCovers, coverage}
 use Rattle.conflicts.specs.Counts.{conflictCount, conflictCounts}
 use Rattle.conflicts.specs.Sides.{sidesOf, sideLists, sameSide, lawful, errorFree, firstSides}
 use Rattle.conflicts.specs.Removal.{snpKeepMarks, fragmentKeepMarks}
@@ -136,6 +136,10 @@ freeOn n table keepCols = bit (errorFree 2 (gridOf n table) keepCols (keepAll (f
 unfoldable pub countOn : ℕ → List ℕ → List ℕ → ℕ → ℕ → ℕ
 countOn n table keepCols i j = conflictCount (gridOf n table) keepCols i j
 
+-- how many fragments' stretches cover a column of a table
+unfoldable pub coverageOn : ℕ → List ℕ → ℕ → ℕ
+coverageOn n table c = coverage (gridOf n table) c
+
 -- what sides cost in a table
 unfoldable pub costOf : ℕ → List ℕ → List ℕ → ℕ
 costOf n table sides = cost 2 (gridOf n table) sides
@@ -146,12 +150,12 @@ left call outcome buffers = let r = leaves call in sameVerdict (r .0) outcome &&
 
 -- a trial passes; to unfold this unfolds all that a trial computes with
 passes : Trial → Bool
-unfolding marks cells frag tableFrom leaves workLeft lent nines work9 answer9 unpackOn checkOn countsOn SOn FOn COn answers corrects freeOn countOn costOf left sameVerdict sameList hostRead
+unfolding marks cells frag tableFrom leaves workLeft lent nines work9 answer9 unpackOn checkOn countsOn SOn FOn COn answers corrects freeOn countOn coverageOn costOf left sameVerdict sameList hostRead
     _==_ _<?_ _≤?_ _and_ _or_ isnt allBelow anyBelow sumBelow countBelow firstBelow endBelow tab tabFrom concat
     littleEndian tagOf startOf spanOf byte7Of isCall cellOf codeAt fragments recordAt partStart partLength position unpackedCells unpackedTags
     bytesOf cellBytes callsEnd callsStart callsSpan cut laidOut recordOf rowOf packed
-    decide outOfFrame strayBits unknownCall openEnd gapIn gapped tagTwice recordRules tableRules sizeRules
-    choices passing some first leastOf firstLeast marked zeros keepAll keepLists gridOf withCells callsConflict conflictOn conflictOnKept depth conflictCount conflictCounts
+    decide outOfFrame strayBits unknownCall openEnd gapIn gapped tagTwice spanRules recordRules gaplessRules tableRules gaplessTableRules sizeRules
+    choices passing some first leastOf firstLeast marked zeros keepAll keepLists gridOf withCells callsConflict conflictOn conflictOnKept stretchCovers coverage conflictCount conflictCounts
     sidesOf sideLists sameSide lawful errorFree firstSides snpKeepMarks fragmentKeepMarks
     correctionCost sideCount sidePrice majorityLetter columnCost cost leastCostSides sideLetter correctedCell corrected differs cellCount changedCells
     sideCall haplotype haplotypes linked reached lowest block answerSize answer checkAnswer snpAnswer fragmentAnswer correctedGrid correctionAnswer rewrittenCode rewritten correctedTable

@@ -1,4 +1,4 @@
--- Paper 01's trials marked P, with the blocks of paper 02's T-04, and then others that tell right programs from wrong ones, from the bytes given to everything that a call leaves: computed statements.
+-- Paper 01's trials marked P, with the blocks of paper 02's T-04 and the mates of its T-01, and then others that tell right programs from wrong ones, from the bytes given to everything that a call leaves: computed statements.
 -- An answer is written as the listing prints it after the service's letter: count, keep marks, haplotype 1, haplotype 2, sides, blocks (paper 01, "The listing program").
 -- Assumes nothing.
 use mathlib.Core.Path.{_≡_, refl}
@@ -9,7 +9,7 @@ use Rattle.records.specs.Outcome.{accepted, refused}
 use Rattle.records.proofs.TrialTools.{filled}
 use Rattle.conflicts.specs.Host.{hostCode, hostOutcome}
 use Rattle.records.proofs.TrialText.{marks, cells, frag, tableFrom}
-use Rattle.conflicts.proofs.TrialCalls.{unpack, pack, check, counts, S, F, C, leaves, nines, work9, unpackOn, checkOn, countsOn, SOn, FOn, COn, Trial, accepts, keeps, works, finds, equals, reads, answers, corrects, freeOn, countOn, costOf, failing}
+use Rattle.conflicts.proofs.TrialCalls.{unpack, pack, check, counts, S, F, C, leaves, nines, work9, unpackOn, checkOn, countsOn, SOn, FOn, COn, Trial, accepts, keeps, works, finds, equals, reads, answers, corrects, freeOn, countOn, coverageOn, costOf, failing}
 
 -- ---- the tables of paper 01's trials
 
@@ -36,7 +36,7 @@ three = tableFrom 1 "AA, AB, BA"
 four : List ℕ
 four = tableFrom 1 "AA, AB, BA, BB"
 
--- "AB-, -AB, B-A", by its bytes: the last record breaks rule 8
+-- "AB-, -AB, B-A", by its bytes: the last record has a hole between two calls
 holed : List ℕ
 holed = frag 1 0 2 0x09 ++ frag 2 1 2 0x09 ++ frag 3 0 3 0x12
 
@@ -81,13 +81,14 @@ pTrials =
     ∷ answers (SOn 2 four) "1 10 A# B# 1122 0,0,0,0"
     ∷ answers (FOn 2 four) "2 11 AA AB 1200 0,0,-,-"
     ∷ corrects (COn 2 four) "2 11 AA BB 1112 0,0,0,0" (tableFrom 1 "AA, AA, AA, BB")
-    -- P "AB-, -AB, B-A: refusal 8 at 2"
-    ∷ keeps (unpackOn 3 holed) (refused 8 2)
-    ∷ keeps (checkOn 3 holed) (refused 8 2)
+    -- P "AB-, -AB, B-A: refusal 8 at 2", from S and F; T-01: "a no from check and an answer from C"
+    ∷ accepts (unpackOn 3 holed) 3 (cells "AB-, -AB, B-A" ∷ (1 ∷ 2 ∷ 3 ∷ []) ∷ [])
+    ∷ accepts (pack 3 (cells "AB-, -AB, B-A") (1 ∷ 2 ∷ 3 ∷ []) (nines 96)) 3 (holed ∷ [])
+    ∷ keeps (checkOn 3 holed) (accepted 1)
+    ∷ accepts (countsOn 3 holed) 3 ((0 ∷ 1 ∷ 1 ∷ 1 ∷ 0 ∷ 1 ∷ 1 ∷ 1 ∷ 0 ∷ []) ∷ [])
     ∷ keeps (SOn 3 holed) (refused 8 2)
     ∷ keeps (FOn 3 holed) (refused 8 2)
-    ∷ keeps (COn 3 holed) (refused 8 2)
-    ∷ keeps (pack 3 (cells "AB-, -AB, B-A") (1 ∷ 2 ∷ 3 ∷ []) (nines 96)) (refused 8 2)
+    ∷ corrects (COn 3 holed) "1 111 AAB B-A 112 0,0,0" (tableFrom 1 "AA-, -AB, B-A")
     -- P "a column no one calls is kept, a hole in both haplotypes"
     ∷ answers (checkOn 2 lone) "0 11 A- -- 1 0"
     ∷ answers (SOn 2 lone) "0 11 A- -- 1 0"
@@ -154,6 +155,25 @@ rarerA = tableFrom 1 "AA, AB, BA, -B, B-"
 -- nine calls in column 1
 deep : List ℕ
 deep = tableFrom 0 "-A, -A, -A, -A, -A, -A, -A, -A, -A"
+
+-- mates that agree, and whose far mates conflict
+mates : List ℕ
+mates = tableFrom 1 "A-A, A-B"
+
+-- its second column lies between mates, and no one calls it
+between : List ℕ
+between = tableFrom 1 "A-A, B-B"
+
+-- eight stretches over column 1, which four fragments call
+covered : List ℕ
+covered = tableFrom 0 "A-A-, A-A-, A-A-, A-A-, -B-A, -B-A, -B-A, -B-A"
+
+-- two calls at the ends of 96 columns, as a row and as a record
+wideRow : List ℕ
+wideRow = 1 ∷ replicate 94 0 ++ 2 ∷ []
+
+wide : List ℕ
+wide = filled (1 ∷ 0 ∷ 0 ∷ 0 ∷ 0 ∷ 0 ∷ 96 ∷ 0 ∷ 0x01 ∷ replicate 22 0 ++ 0x80 ∷ [])
 
 -- a row of 97 cells: A first, this code next, and A last
 far : ℕ → List ℕ
@@ -228,9 +248,31 @@ pairTrials =
     ∷ equals (freeOn 3 holed (marks "111")) 0
     ∷ []
 
+-- mate pairs (paper 02, T-01); the gapped triangle's are above
+pub mateTrials : List Trial
+unfolding mates between covered wideRow wide
+mateTrials =
+    -- the far mate counts: for sides, for corrections and for conflicts
+    answers (checkOn 3 mates) "0 111 A-A A-B 12 0,0"
+    ∷ corrects (COn 3 mates) "0 111 A-A A-B 12 0,0" mates
+    ∷ accepts (countsOn 3 mates) 2 ((0 ∷ 1 ∷ 1 ∷ 0 ∷ []) ∷ [])
+    ∷ corrects (COn 3 (tableFrom 1 "A-A, A-B, B-B")) "1 111 A-A B-B 112 0,0,0" (tableFrom 1 "A-A, A-A, B-B")
+    -- the hole at a column that no one calls
+    ∷ answers (checkOn 3 between) "0 111 A-A B-B 12 0,0"
+    ∷ corrects (COn 3 between) "0 111 A-A B-B 12 0,0" between
+    -- a stretch of 96 columns with two calls
+    ∷ accepts (unpackOn 96 wide) 1 (wideRow ∷ (1 ∷ []) ∷ [])
+    ∷ accepts (pack 96 wideRow (1 ∷ []) (nines 32)) 1 (wide ∷ [])
+    ∷ accepts (COn 96 wide) 0 ((replicate 96 1 ++ (wideRow ++ (replicate 96 0 ++ (1 ∷ 0 ∷ [])))) ∷ wide ∷ [])
+    -- 12 counts stretches: nine over column 1, which four fragments call
+    ∷ equals (coverageOn 4 covered 1) 8
+    ∷ corrects (COn 4 covered) "0 1111 ABAA ---- 11111111 0,1,2,3,4,5,6,7" covered
+    ∷ keeps (COn 4 (covered ++ frag 8 0 3 0x11)) (refused 12 1)
+    ∷ []
+
 -- how often two fragments disagree (paper 02, T-06)
 pub countTrials : List Trial
-unfolding printed holed same three callless apart
+unfolding printed same three callless apart
 countTrials =
     -- AA-, BAA, -BB: the first two in column 0, the first and the last in column 1, the last two in columns 1 and 2
     accepts (countsOn 3 printed) 3 ((0 ∷ 1 ∷ 1 ∷ 1 ∷ 0 ∷ 2 ∷ 1 ∷ 2 ∷ 0 ∷ []) ∷ [])
@@ -247,18 +289,18 @@ countTrials =
     ∷ equals (countOn 3 printed (marks "011") 0 1) 0
     -- a table that is not error-free; a table that check refuses
     ∷ accepts (countsOn 2 three) 3 ((0 ∷ 1 ∷ 1 ∷ 1 ∷ 0 ∷ 2 ∷ 1 ∷ 2 ∷ 0 ∷ []) ∷ [])
-    ∷ keeps (countsOn 3 holed) (refused 8 2)
+    ∷ keeps (countsOn 2 (same ++ same)) (refused 9 2)
     -- 3, 1, 2, 11, and the records
     ∷ keeps (counts 129 (printed ++ 0 ∷ []) []) (refused 3 0)
     ∷ keeps (counts 3 (nines 4129) []) (refused 1 0)
     ∷ keeps (counts 3 (nines 4128) []) (refused 2 0)
-    ∷ keeps (counts 3 holed (nines 8)) (refused 11 0)
+    ∷ keeps (counts 2 (same ++ same) (nines 15)) (refused 11 0)
     ∷ keeps (counts 3 printed (nines 10)) (refused 11 0)
     ∷ []
 
 -- rules, in order
 pub ruleTrials : List Trial
-unfolding printed holed lone deep
+unfolding printed holed same lone deep
 ruleTrials =
     -- before the records: 3, 1, 2, 10, 11
     keeps (S 129 (printed ++ 0 ∷ []) [] []) (refused 3 0)
@@ -267,12 +309,12 @@ ruleTrials =
     ∷ keeps (S 3 printed [] (nines 32767)) (refused 10 0)
     ∷ keeps (F 3 printed (nines 15) (nines 32767)) (refused 10 0)
     ∷ keeps (C 3 printed (nines 15) (nines 96) (nines 32767)) (refused 10 0)
-    ∷ keeps (check 3 holed (nines 14)) (refused 11 0)
+    ∷ keeps (check 2 (same ++ same) (nines 13)) (refused 11 0)
     ∷ keeps (S 3 holed (nines 16) work9) (refused 11 0)
     ∷ keeps (F 3 holed [] work9) (refused 11 0)
-    ∷ keeps (C 3 holed (nines 14) (nines 96) work9) (refused 11 0)
-    ∷ keeps (C 3 holed (nines 15) (nines 97) work9) (refused 11 0)
-    -- the records, each by 4 to 9
+    ∷ keeps (C 2 (same ++ same) (nines 13) (nines 128) work9) (refused 11 0)
+    ∷ keeps (C 2 (same ++ same) (nines 14) (nines 129) work9) (refused 11 0)
+    -- the records, each by 4 to 7 and 9
     ∷ keeps (checkOn 128 (lone ++ frag 2 0 97 0x55)) (refused 4 1)
     ∷ keeps (checkOn 3 (lone ++ frag 2 1 0 0)) (refused 4 1)
     ∷ keeps (checkOn 3 (lone ++ filled (2 ∷ 0 ∷ 0 ∷ 0 ∷ 0 ∷ 0 ∷ 1 ∷ 1 ∷ 1 ∷ []))) (refused 5 1)
@@ -281,6 +323,13 @@ ruleTrials =
     ∷ keeps (checkOn 3 (lone ++ frag 2 0 2 0x04)) (refused 7 1)
     ∷ keeps (checkOn 3 (lone ++ frag 2 0 2 0x01)) (refused 7 1)
     ∷ keeps (checkOn 3 (lone ++ lone)) (refused 9 1)
+    -- by S and F each by 4 to 9: 8 after 7 and before 9, and before every rule of a later record
+    ∷ keeps (SOn 4 (lone ++ frag 2 0 4 0x44)) (refused 7 1)
+    ∷ keeps (SOn 3 (lone ++ frag 1 0 3 0x12)) (refused 8 1)
+    ∷ keeps (FOn 3 (lone ++ frag 1 0 3 0x12)) (refused 8 1)
+    ∷ keeps (COn 3 (lone ++ frag 1 0 3 0x12)) (refused 9 1)
+    ∷ keeps (FOn 3 (frag 1 0 3 0x12 ++ frag 2 1 0 0)) (refused 8 0)
+    ∷ keeps (checkOn 3 (frag 1 0 3 0x12 ++ frag 2 1 0 0)) (refused 4 1)
     -- 12, C only, after the records: the lowest column that is too deep
     ∷ keeps (COn 3 deep) (refused 12 1)
     ∷ keeps (COn 3 (deep ++ frag 1 0 1 1)) (refused 9 9)
@@ -288,7 +337,7 @@ ruleTrials =
 
 -- the work buffer: all zero over its whole length after an acceptance, as it was after a refusal
 pub workTrials : List Trial
-unfolding printed holed
+unfolding printed holed deep
 workTrials =
     works (SOn 3 printed) (replicate 32768 0)
     ∷ works (FOn 3 printed) (replicate 32768 0)
@@ -296,23 +345,24 @@ workTrials =
     ∷ works (S 0 [] [] (nines 32769)) (replicate 32769 0)
     ∷ works (SOn 3 holed) work9
     ∷ works (FOn 3 holed) work9
-    ∷ works (COn 3 holed) work9
+    ∷ works (COn 3 deep) work9
     ∷ []
 
 -- unpack
 pub unpackTrials : List Trial
-unfolding printed holed
+unfolding printed same
 unpackTrials =
     accepts (unpackOn 3 printed) 3 (cells "AA-, BAA, -BB" ∷ (10 ∷ 11 ∷ 12 ∷ []) ∷ [])
     ∷ accepts (unpackOn 0 []) 0 ([] ∷ [] ∷ [])
     ∷ keeps (unpack 129 (printed ++ 0 ∷ []) [] []) (refused 3 0)
     ∷ keeps (unpack 3 (printed ++ 0 ∷ []) [] []) (refused 1 0)
     ∷ keeps (unpack 3 (nines 4128) [] []) (refused 2 0)
-    ∷ keeps (unpack 3 holed (nines 8) (nines 3)) (refused 11 0)
-    ∷ keeps (unpack 3 holed (nines 9) (nines 4)) (refused 11 0)
+    ∷ keeps (unpack 2 (same ++ same) (nines 7) (nines 4)) (refused 11 0)
+    ∷ keeps (unpack 2 (same ++ same) (nines 8) (nines 5)) (refused 11 0)
+    ∷ keeps (unpackOn 2 (same ++ same)) (refused 9 2)
     ∷ []
 
--- pack, and its rules in order: 3, 1, 2, 11; then 6, 4, 8, 9
+-- pack, and its rules in order: 3, 1, 2, 11; then 6, 4, 9
 pub packTrials : List Trial
 unfolding printed far
 packTrials =
@@ -325,7 +375,8 @@ packTrials =
     ∷ keeps (pack 1 (3 ∷ []) (1 ∷ []) (nines 31)) (refused 11 0)
     ∷ keeps (pack 97 (far 3) (1 ∷ []) (nines 32)) (refused 6 0)
     ∷ keeps (pack 97 (far 1) (1 ∷ []) (nines 32)) (refused 4 0)
-    ∷ keeps (pack 3 (cells "A--, A-A") (1 ∷ 1 ∷ []) (nines 64)) (refused 8 1)
+    ∷ accepts (pack 3 (cells "A--, A-A") (1 ∷ 2 ∷ []) (nines 64)) 2 (tableFrom 1 "A--, A-A" ∷ [])
+    ∷ keeps (pack 3 (cells "A--, A-A") (1 ∷ 1 ∷ []) (nines 64)) (refused 9 1)
     ∷ keeps (pack 1 (cells "A, A, A") (1 ∷ 2 ∷ 1 ∷ []) (nines 96)) (refused 9 2)
     ∷ []
 
@@ -344,11 +395,11 @@ findTrials =
 
 -- the host's number
 pub hostTrials : List Trial
-unfolding pair printed holed
+unfolding pair printed holed lone
 hostTrials =
     equals (hostCode (leaves (checkOn 1 pair) .0)) 0
     ∷ equals (hostCode (leaves (checkOn 3 printed) .0)) 1
-    ∷ equals (hostCode (leaves (checkOn 3 holed) .0)) 8002
+    ∷ equals (hostCode (leaves (checkOn 3 (lone ++ lone)) .0)) 9001
     ∷ equals (hostOutcome (leaves (SOn 3 printed) .0)) 1
     ∷ equals (hostOutcome (leaves (SOn 3 holed) .0)) 34359738370
     ∷ reads 1000 1 (accepted 1)
@@ -359,8 +410,8 @@ hostTrials =
 
 -- all trials but paper 01's
 pub otherTrials : List Trial
-unfolding aboveTrials answerTrials blockTrials pairTrials countTrials ruleTrials workTrials unpackTrials packTrials findTrials hostTrials
-otherTrials = aboveTrials ++ answerTrials ++ blockTrials ++ pairTrials ++ countTrials ++ ruleTrials ++ workTrials ++ unpackTrials ++ packTrials ++ findTrials ++ hostTrials
+unfolding aboveTrials answerTrials blockTrials pairTrials mateTrials countTrials ruleTrials workTrials unpackTrials packTrials findTrials hostTrials
+otherTrials = aboveTrials ++ answerTrials ++ blockTrials ++ pairTrials ++ mateTrials ++ countTrials ++ ruleTrials ++ workTrials ++ unpackTrials ++ packTrials ++ findTrials ++ hostTrials
 
 -- all of these
 pub others-pass : failing 0 otherTrials ≡ []

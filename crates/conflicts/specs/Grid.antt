@@ -3,7 +3,7 @@
 use Prim.Native.Nat.{ℕ}
 use mathlib.Core.Bool.{Bool}
 use mathlib.Core.List.{List}
-use Rattle.below.specs.Below.{_==_, _and_, _or_, isnt, allBelow, anyBelow, countBelow}
+use Rattle.below.specs.Below.{_==_, _≤?_, _and_, _or_, isnt, allBelow, anyBelow, countBelow}
 use Rattle.records.specs.Record.{isCall, codeAt}
 use Rattle.records.specs.Table.{fragments, recordAt}
 use Rattle.records.specs.Rules.{gapIn}
@@ -51,6 +51,10 @@ mixed g c = anyBelow (g .m) (λ i. g .cell i c == 1) and anyBelow (g .m) (λ i. 
 unfoldable pub gapless : Grid → Bool
 gapless g = allBelow (g .m) (λ i. isnt (gapIn (g .n) (g .cell i)))
 
--- the "calls in a column"
-unfoldable pub depth : Grid → ℕ → ℕ
-depth g c = countBelow (g .m) (λ i. isCall (g .cell i c))
+-- a fragment's "stretch from first to last call covers a column" (paper 02, T-01): it has a call at or before the column, and one at or after it
+unfoldable pub stretchCovers : Grid → ℕ → ℕ → Bool
+stretchCovers g c i = anyBelow (g .n) (λ a. a ≤? c and isCall (g .cell i a)) and anyBelow (g .n) (λ b. c ≤? b and isCall (g .cell i b))
+
+-- how many fragments' stretches cover a column
+unfoldable pub coverage : Grid → ℕ → ℕ
+coverage g c = countBelow (g .m) (stretchCovers g c)

@@ -7,16 +7,16 @@ use Rattle.below.specs.Below.{if_then_else_, _==_, _<?_, isnt, anyBelow, tab, c
 use Rattle.records.specs.Table.{fragments, partStart, partLength, position, unpackedCells, unpackedTags}
 use Rattle.records.specs.Writing.{callsSpan, rowOf, packed}
 use Rattle.records.specs.Outcome.{Verdict, accepted, refused}
-use Rattle.records.specs.Rules.{Rule, rule, decide, gapIn, sizeRules, tableRules}
+use Rattle.records.specs.Rules.{Rule, rule, decide, sizeRules, tableRules, gaplessTableRules}
 use Rattle.conflicts.specs.Choice.{zeros, keepAll}
-use Rattle.conflicts.specs.Grid.{Grid, gridOf, depth}
+use Rattle.conflicts.specs.Grid.{Grid, gridOf, coverage}
 use Rattle.conflicts.specs.Counts.{conflictCounts}
 use Rattle.conflicts.specs.Sides.{errorFree}
 use Rattle.conflicts.specs.Removal.{snpKeepMarks, fragmentKeepMarks}
 use Rattle.conflicts.specs.Corrections.{changedCells}
 use Rattle.conflicts.specs.Answer.{answerSize, checkAnswer, snpAnswer, fragmentAnswer, correctionAnswer, correctedTable}
 
--- ---- the stages of the rules; records' sizeRules and tableRules are two more
+-- ---- the stages of the rules; records' sizeRules, tableRules and gaplessTableRules are three more
 
 -- 10, "short work": work under 32,768 numbers
 unfoldable pub workRules : List ℕ → List Rule
@@ -26,20 +26,19 @@ workRules work = rule 10 0 (length work <? 32768) ∷ []
 unfoldable pub lengthRule : List ℕ → ℕ → Rule
 lengthRule output exact = rule 11 0 (isnt (length output == exact))
 
--- 12, "too deep": over 8 calls in a column
+-- 12, "too deep": over 8 fragments whose stretch covers a column
 unfoldable pub depthRules : Grid → List Rule
-depthRules g = tab (g .n) (λ c. rule 12 c (8 <? depth g c))
+depthRules g = tab (g .n) (λ c. rule 12 c (8 <? coverage g c))
 
 -- pack's sizes: 3; 1, "cells not m × n"; 2
 unfoldable pub packSizeRules : ℕ → List ℕ → List ℕ → List Rule
 packSizeRules n cells tags = rule 3 0 (128 <? n) ∷ rule 1 0 (isnt (length cells == length tags * n)) ∷ rule 2 0 (128 <? length tags) ∷ []
 
--- pack's fragment i: 6, "a cell over 2"; 4, "calls reach over more than 96 columns"; 8; 9
+-- pack's fragment i: 6, "a cell over 2"; 4, "calls reach over more than 96 columns"; 9
 unfoldable pub fragmentRules : ℕ → List ℕ → List ℕ → ℕ → List Rule
 fragmentRules n cells tags i =
     rule 6 i (anyBelow n (λ c. 2 <? rowOf n cells i c))
     ∷ rule 4 i (96 <? callsSpan n (rowOf n cells i))
-    ∷ rule 8 i (gapIn n (rowOf n cells i))
     ∷ rule 9 i (anyBelow i (λ h. getD tags h 0 == getD tags i 0))
     ∷ []
 
@@ -64,9 +63,9 @@ conflictCountsRules n table counts = concat (sizeRules n table ∷ (lengthRule c
 unfoldable pub lentStages : ℕ → List ℕ → List ℕ → List ℕ → List (List Rule)
 lentStages n table answer work = sizeRules n table ∷ workRules work ∷ (lengthRule answer (answerSize (fragments table) n) ∷ []) ∷ []
 
--- S's and F's
+-- S's and F's, which "keep refusal 8"
 unfoldable pub removalRules : ℕ → List ℕ → List ℕ → List ℕ → List Rule
-removalRules n table answer work = concat (lentStages n table answer work ++ (tableRules n table ∷ []))
+removalRules n table answer work = concat (lentStages n table answer work ++ (gaplessTableRules n table ∷ []))
 
 -- C's stages before 12: those, 11 for its table, and the records
 unfoldable pub correctionStages : ℕ → List ℕ → List ℕ → List ℕ → List ℕ → List (List Rule)

@@ -1,14 +1,13 @@
 -- C over the cell matrix is C over the table's bytes; what C returns and leaves.
 -- Assumes nothing.
-use mathlib.Core.Path.{_≡_, refl, sym, ap, ap₂, _∙_}
-use mathlib.Core.Bool.{Bool}
-use mathlib.Core.List.{List, [], _∷_, _++_}
-use Prim.Native.Nat.{ℕ, zero, suc, _+_, _*_, _≤_, _<_}
+use mathlib.Core.Path.{_≡_, sym, ap, ap₂, _∙_}
+use mathlib.Core.List.{List}
+use Prim.Native.Nat.{ℕ, _+_, _*_, _≤_, _<_}
 use native.Mathlib.Nat.{lt-of-lt-of-le}
 use native.Mathlib.Omega.{arith}
 use lib.Dec.{lit≤}
 use lib.ListN.{length, getD, replicate}
-use Rattle.below.specs.Below.{firstBelow, concat, _<?_}
+use Rattle.below.specs.Below.{concat, _<?_}
 use Rattle.records.specs.Record.{codeAt}
 use Rattle.records.specs.Table.{fragments, recordAt}
 use Rattle.records.specs.Outcome.{Verdict, accepted, refused}
@@ -19,24 +18,23 @@ use Rattle.records.proofs.RuleLaws.{stage-last, stages-kept, stages-refused}
 use Rattle.records.proofs.PackLaws.{sound-fits}
 use Rattle.records.proofs.AcceptedLaws.{whole-records, accepted-sound, sized-count, sized-n, sized-m}
 use Rattle.conflicts.specs.Choice.{keepAll}
-use Rattle.conflicts.specs.Grid.{Grid, gridOf, withCells, depth}
+use Rattle.conflicts.specs.Grid.{Grid, gridOf, withCells, coverage}
 use Rattle.matrix.specs.Algorithm.Matrix.{matrixGrid}
 use Rattle.conflicts.specs.Corrections.{cost, leastCostSides, correctedCell, corrected, changedCells}
 use Rattle.conflicts.specs.Answer.{answer, correctedGrid, correctionAnswer, correctedTable}
-use Rattle.conflicts.specs.Services.{written, workAfter, depthRules, correctionRules, correctionsLeaves, lentStages, correctionStages}
+use Rattle.conflicts.specs.Served.{NoneDeep}
+use Rattle.conflicts.specs.Services.{written, workAfter, depthRules, correctionRules, correctionsLeaves, correctionStages}
 use Rattle.conflicts.proofs.SameLaws.{answer-cells}
 use Rattle.conflicts.proofs.LeastCorrections.{least-length, least-on}
 use Rattle.conflicts.proofs.CorrectedTableLaws.{rewritten-same, corrected-small}
 use Rattle.conflicts.proofs.CorrectionsMinimality.{changed-number, corrections-accepted}
 use Rattle.conflicts.proofs.DeepLaws.{deep-refused, deep-kept}
 use Rattle.matrix.specs.Algorithm.Cells.{tableCells, MarkedMatrix}
-use Rattle.matrix.proofs.TableLaws.{cells-same, cells-cost, cells-leastCostSides, cells-depth, cells-correctionAnswer}
+use Rattle.matrix.proofs.TableLaws.{cells-same, cells-cost, cells-leastCostSides, cells-coverage, cells-correctionAnswer}
 use Rattle.matrix.proofs.AlikeLaws.{correctedCell-cells}
-use Rattle.slots.specs.Algorithm.Columns.{Shallow}
-use Rattle.rewriting.specs.Algorithm.Depth.{firstDeep}
+use Rattle.slots.specs.Algorithm.Columns.{firstDeep}
 use Rattle.rewriting.specs.Algorithm.Letters.{OnSides, correctedCells}
-use Rattle.rewriting.proofs.DepthLaws.{first-deep, first-none}
-use Rattle.slots.proofs.CoverLaws.{not-deep}
+use Rattle.slots.proofs.DepthLaws.{first-deep, first-none}
 use Rattle.slots.proofs.GrantLaws.{first-same}
 use Rattle.rewriting.proofs.LetterLaws.{corrected-cell, corrected-two-bits}
 use Rattle.records.specs.Algorithm.Kept.{SizesKept, RecordsKept}
@@ -44,12 +42,12 @@ use Rattle.correcting.specs.Algorithm.Stages.{CorrectionKept}
 use Rattle.correcting.specs.Meanings.{CorrectionSays}
 use Rattle.rewriting.specs.Algorithm.Rewriting.{rowIn, TwoBits, rewrittenTable}
 use Rattle.conflicts.proofs.SideLaws.{all-length}
-use Rattle.matrix.proofs.KeptLaws.{few, grid-is, table-gapless}
+use Rattle.matrix.proofs.KeptLaws.{few, grid-is, table-codes}
 
 -- rule 12 is kept where the search for its column ends past the last one
 pub shallow-columns : (m n : ℕ) (cells : List ℕ) {deep : ℕ} → deep ≡ firstDeep (matrixGrid m n cells) → n ≤ deep → firstDeep (matrixGrid m n cells) ≡ n
 unfolding firstDeep matrixGrid
-shallow-columns m n cells e h = let l = firstBelow-le n (λ c. 8 <? depth (matrixGrid m n cells) c) in omega arith
+shallow-columns m n cells e h = let l = firstBelow-le n (λ c. 8 <? coverage (matrixGrid m n cells) c) in omega arith
 
 -- ---- the matrix and the bytes
 
@@ -61,21 +59,21 @@ module _ {n m : ℕ} {table cells : List ℕ} (sized : SizesKept n m table) (kep
   pub table-deep : firstDeep (matrixGrid m n cells) ≡ firstDeep (gridOf n table)
   unfolding firstDeep matrixGrid gridOf
   table-deep =
-      ap firstDeep (grid-is sized kept same)
-      ∙ first-same n _ _ (λ c h. ap (λ (x : ℕ). 8 <? x) (cells-depth n table (sized-n sized) (few sized kept same) c h))
+      ap firstDeep (grid-is sized same)
+      ∙ first-same n _ _ (λ c h. ap (λ (x : ℕ). 8 <? x) (cells-coverage n table (sized-n sized) (few sized same) c))
 
   -- no column is too deep
-  pub table-shallow : firstDeep (matrixGrid m n cells) ≡ n → Shallow (matrixGrid m n cells)
+  pub table-shallow : firstDeep (matrixGrid m n cells) ≡ n → NoneDeep (matrixGrid m n cells)
   unfolding matrixGrid
-  table-shallow e = let w = table-gapless sized kept same in not-deep g (w .no-gap) (w .codes) (first-none g e)
+  table-shallow e = first-none g e
 
   -- C's number
   pub table-count : {r : ℕ} → r ≡ cost 2 (matrixGrid m n cells) (leastCostSides 2 (matrixGrid m n cells)) → r ≡ changedCells (gridOf n table) (gridOf n (correctedTable n table))
   table-count e =
       e
-      ∙ ap (λ (h : Grid). cost 2 h (leastCostSides 2 h)) (grid-is sized kept same)
-      ∙ cells-cost n table (sized-n sized) (few sized kept same) 2 _
-      ∙ ap (cost 2 (gridOf n table)) (cells-leastCostSides n table (sized-n sized) (few sized kept same) 2)
+      ∙ ap (λ (h : Grid). cost 2 h (leastCostSides 2 h)) (grid-is sized same)
+      ∙ cells-cost n table (sized-n sized) (few sized same) 2 _
+      ∙ ap (cost 2 (gridOf n table)) (cells-leastCostSides n table (sized-n sized) (few sized same) 2)
       ∙ sym (changed-number n table (whole-records n table _ _ (sized .kept)))
 
   module _ {sides : List ℕ} (least : sides ≡ leastCostSides 2 (matrixGrid m n cells)) where
@@ -91,7 +89,7 @@ module _ {n m : ℕ} {table cells : List ℕ} (sized : SizesKept n m table) (kep
       unfolding matrixGrid corrected withCells
       table-two-bits = record {
         small = λ k. rw turned (corrected-two-bits m n cells sides (sized-m sized) (sized-n sized)
-            (λ i c hi hc. corrected-small g sides i c (let x = table-gapless sized kept same .codes i c hi hc in omega arith)) k);
+            (λ i c hi hc. corrected-small g sides i c (let x = table-codes sized same kept i c hi hc in omega arith)) k);
       }
 
       -- the answer is written from a whole matrix
@@ -112,8 +110,8 @@ module _ {n m : ℕ} {table cells : List ℕ} (sized : SizesKept n m table) (kep
           e
           ∙ answer-cells (matrixGrid m n fixed) (correctedCell g sides) fixed-cell cols sides
           ∙ ap₂ (λ (c s : List ℕ). answer (corrected g s) c s) all least
-          ∙ ap correctionAnswer (grid-is sized kept same)
-          ∙ cells-correctionAnswer n table (sized-n sized) (few sized kept same)
+          ∙ ap correctionAnswer (grid-is sized same)
+          ∙ cells-correctionAnswer n table (sized-n sized) (few sized same)
 
       -- a corrected cell, read from the bytes
       fixed-code : (i c : ℕ) → i < fragments table → c < n → getD fixed (i * 128 + c) 0 ≡ correctedGrid (gridOf n table) .cell i c
@@ -121,9 +119,9 @@ module _ {n m : ℕ} {table cells : List ℕ} (sized : SizesKept n m table) (kep
       fixed-code i c hi hc =
           let bytes = matrixGrid (fragments table) n (tableCells n table) in
           fixed-cell i c (let e = sized-count sized in omega arith) hc
-          ∙ ap₂ (λ (h : Grid) (s : List ℕ). correctedCell h s i c) (grid-is sized kept same) (least ∙ ap (leastCostSides 2) (grid-is sized kept same))
-          ∙ correctedCell-cells bytes (λ i c. codeAt (recordAt table i) c) (cells-same n table (sized-n sized) (few sized kept same)) (leastCostSides 2 bytes) i c hi hc
-          ∙ ap (λ (s : List ℕ). correctedCell (gridOf n table) s i c) (cells-leastCostSides n table (sized-n sized) (few sized kept same) 2)
+          ∙ ap₂ (λ (h : Grid) (s : List ℕ). correctedCell h s i c) (grid-is sized same) (least ∙ ap (leastCostSides 2) (grid-is sized same))
+          ∙ correctedCell-cells bytes (λ i c. codeAt (recordAt table i) c) (cells-same n table (sized-n sized) (few sized same)) (leastCostSides 2 bytes) i c hi hc
+          ∙ ap (λ (s : List ℕ). correctedCell (gridOf n table) s i c) (cells-leastCostSides n table (sized-n sized) (few sized same) 2)
 
       -- C's table
       pub table-records : {after : List ℕ} → after ≡ rewrittenTable table fixed → after ≡ correctedTable n table

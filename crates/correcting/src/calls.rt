@@ -10,7 +10,7 @@ ghost use Rattle.conflicts.specs.Corrections.{changedCells};
 ghost use Rattle.conflicts.specs.Answer.{answerSize, correctionAnswer, correctedTable};
 ghost use Rattle.conflicts.specs.Services.{correctionsLeaves};
 ghost use Rattle.matrix.specs.Algorithm.Cells.{tableCells};
-ghost use Rattle.rewriting.specs.Algorithm.Depth.{firstDeep};
+ghost use Rattle.slots.specs.Algorithm.Columns.{firstDeep};
 ghost use Rattle.records.specs.Algorithm.Kept.{SizesKept, RecordsKept};
 ghost use Rattle.correcting.specs.Algorithm.Stages.{CorrectionKept};
 ghost use Rattle.correcting.specs.Meanings.{CorrectionSays};
@@ -23,7 +23,7 @@ use ranks::table;
 use records::Outcome;
 use rewriting::correct_cells;
 use rewriting::fill_records;
-use rewriting::first_deep;
+use slots::first_deep;
 use stages::correction_fault;
 
 // Settles the sides, and writes the answer and the records after correction. The sides and the corrected cells are scratch.

@@ -18,7 +18,8 @@ use Rattle.events.proofs.EventLaws.{Absent, Ordered}
 use Rattle.events.proofs.ColumnLaws.{ordered-from, ordered-column}
 use Rattle.events.proofs.SlotLaws.{holds-none, holds-charge, holds-enter, holds-end, enter-apart}
 use Rattle.events.proofs.ShapeLaws.{shaped, few-from, few-part, charges-from, charges-part, places-fit}
-use Rattle.slots.specs.Algorithm.Columns.{firstColumn, covers, Shallow}
+use Rattle.conflicts.specs.Served.{NoneDeep}
+use Rattle.slots.specs.Algorithm.Columns.{firstColumn, covers}
 use Rattle.conflicts.specs.Corrections.{columnCost}
 use Rattle.slots.specs.Algorithm.Spans.{Slotted}
 use Rattle.corrections.specs.Algorithm.Sweep.{Gathered, HoldsAll}
@@ -51,7 +52,7 @@ module _ (g : Grid) where
       first : Ordered (covers g) (g .n) (enter f ∷ partOf start (g .m) c (suc f) j q) → Absent f (partOf start (g .m) c (suc f) j q)
       first o = o .0
 
-  module _ (slots : List ℕ) (shallow : Shallow g) (small : g .m ≤ 128) (columns : g .n ≤ 128) where
+  module _ (slots : List ℕ) (shallow : NoneDeep g) (small : g .m ≤ 128) (columns : g .n ≤ 128) where
     -- ---- room
 
     few-cost : {cost count : ℕ} → cost ≤ 16 * count → count ≤ 128 → cost ≤ 60000

@@ -6,13 +6,13 @@ ghost use mathlib.Core.Path.{_≡_};
 ghost use lib.ListN.{length};
 ghost use Rattle.matrix.specs.Algorithm.Matrix.{matrixGrid, Matrix};
 ghost use Rattle.conflicts.specs.Corrections.{cost, leastCostSides};
-ghost use Rattle.slots.specs.Algorithm.Columns.{Shallow};
+ghost use Rattle.conflicts.specs.Served.{NoneDeep};
 
 mod sweep;
 
 // Writes the first side list of least cost, and returns that cost.
 pub fn least_cost_sides(m: usize, n: usize, cells: &[u8], sides: &mut [u8]) -> usize
-    requires { ⌜ Matrix m n (now cells) × Shallow (matrixGrid m n (now cells)) × (length (now sides) ≡ m) ⌝ }
+    requires { ⌜ Matrix m n (now cells) × NoneDeep (matrixGrid m n (now cells)) × (length (now sides) ≡ m) ⌝ }
     ensures { λ r. ⌜ (now (sides .exit) ≡ leastCostSides 2 (matrixGrid m n (now (cells .entry))))
         × (r ≡ cost 2 (matrixGrid m n (now (cells .entry))) (leastCostSides 2 (matrixGrid m n (now (cells .entry))))) ⌝ }
 {

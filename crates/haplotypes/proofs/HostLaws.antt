@@ -3,7 +3,7 @@
 use mathlib.Core.Path.{_≡_, refl, sym, ap, ap₂, subst, _∙_}
 use mathlib.Core.Bool.{Bool, true, false}
 use mathlib.Core.Logic.{inl, inr}
-use mathlib.Core.List.{List, [], _∷_, List·Memᴰ, List·Memᴰ·head, List·Memᴰ·tail, List·Memᴰ·not-nil, List·Memᴰ·cases-cons, List·Memᴰ·append-cases}
+use mathlib.Core.List.{List, [], _∷_, _++_, List·Memᴰ, List·Memᴰ·head, List·Memᴰ·tail, List·Memᴰ·not-nil, List·Memᴰ·cases-cons, List·Memᴰ·append-cases}
 use Prim.Native.Nat.{ℕ, zero, suc, _+_, _*_, _/_, _%_, _≤_, _<_, zero-le}
 use native.Mathlib.Nat.{mul-comm, mul-le-mul, suc-mul, le-refl, lt-of-le-of-lt}
 use native.Mathlib.Omega.{arith}
@@ -14,13 +14,13 @@ use Rattle.records.specs.Table.{fragments, partStart, position}
 use Rattle.records.specs.declared.Outcome.{Outcome}
 use Rattle.records.specs.declared.Outcome.the-variants.{Refused}
 use Rattle.records.specs.Outcome.{Verdict, accepted, refused, outcomeOf}
-use Rattle.records.specs.Rules.{Rule, rule, decide, recordRules, tableRules, sizeRules}
+use Rattle.records.specs.Rules.{Rule, rule, decide, spanRules, recordRules, gaplessRules, tableRules, gaplessTableRules, sizeRules}
 use Rattle.below.proofs.BelowLaws.{if-true, if-false, lt-<?, le-isnt, count-bound}
 use Rattle.below.proofs.MemberLaws.{concat-at, tab-at}
 use Rattle.records.proofs.RuleLaws.{decide-append, decide-accepted, decide-refused}
 use Rattle.records.proofs.AcceptedLaws.{few-columns, few-fragments}
 use Rattle.conflicts.specs.Choice.{zeros, keepAll}
-use Rattle.conflicts.specs.Grid.{Grid, gridOf, depth}
+use Rattle.conflicts.specs.Grid.{Grid, gridOf, coverage}
 use Rattle.conflicts.specs.Sides.{errorFree}
 use Rattle.conflicts.specs.Removal.{snpKeepMarks, fragmentKeepMarks}
 use Rattle.conflicts.specs.Corrections.{changedCells, cellCount, differs}
@@ -119,15 +119,17 @@ module _ {base : ℕ} (wide : 128 < base) where
   unfolding workRules
   work-named work = one-more (omega arith) at-0 none-named
 
-  record-named : (n : ℕ) (table : List ℕ) (i : ℕ) → i < base → Named base (recordRules n table i)
-  unfolding recordRules
-  record-named n table i h =
-      one-more (omega arith) h
-      (one-more (omega arith) h (one-more (omega arith) h (one-more (omega arith) h (one-more (omega arith) h (one-more (omega arith) h none-named)))))
+  span-named : (n : ℕ) (table : List ℕ) (i : ℕ) (rs : List Rule) → i < base → Named base rs → Named base (spanRules n table i ++ rs)
+  unfolding spanRules
+  span-named n table i rs h w = one-more (omega arith) h (one-more (omega arith) h (one-more (omega arith) h (one-more (omega arith) h w)))
 
   table-named : (n : ℕ) (table : List ℕ) → fragments table ≤ 128 → Named base (tableRules n table)
-  unfolding tableRules
-  table-named n table few = rows-named _ _ (λ i h. record-named n table i (omega arith))
+  unfolding tableRules recordRules
+  table-named n table few = rows-named _ _ (λ i h. span-named n table i _ (omega arith) (one-more (omega arith) (omega arith) none-named))
+
+  gapless-named : (n : ℕ) (table : List ℕ) → fragments table ≤ 128 → Named base (gaplessTableRules n table)
+  unfolding gaplessTableRules gaplessRules
+  gapless-named n table few = rows-named _ _ (λ i h. span-named n table i _ (omega arith) (one-more (omega arith) (omega arith) (one-more (omega arith) (omega arith) none-named)))
 
   -- what follows rules 3, 1 and 2
   module _ (n : ℕ) (table : List ℕ) (stages : List (List Rule)) (count : ℕ) where
@@ -148,7 +150,7 @@ module _ {base : ℕ} (wide : 128 < base) where
   unfolding depthRules
   depth-named g few = go (g .n) few
     where
-      go : (n : ℕ) → n ≤ 128 → Named base (tab n (λ c. rule 12 c (8 <? depth g c)))
+      go : (n : ℕ) → n ≤ 128 → Named base (tab n (λ c. rule 12 c (8 <? coverage g c)))
       go n h r m = let b = tab-at _ n m in subst (λ (q : Rule). (1 ≤ q .number) × (q .place < base)) (sym (b .2)) (omega arith, let l = b .1 in omega arith)
 
   pack-sizes-named : (n : ℕ) (cells tags : List ℕ) → Named base (packSizeRules n cells tags)
@@ -157,13 +159,13 @@ module _ {base : ℕ} (wide : 128 < base) where
 
   fragment-named : (n : ℕ) (cells tags : List ℕ) (i : ℕ) → i < base → Named base (fragmentRules n cells tags i)
   unfolding fragmentRules
-  fragment-named n cells tags i h = one-more (omega arith) h (one-more (omega arith) h (one-more (omega arith) h (one-more (omega arith) h none-named)))
+  fragment-named n cells tags i h = one-more (omega arith) h (one-more (omega arith) h (one-more (omega arith) h none-named))
 
   -- S's and F's, of any count
   removal-fits : (n : ℕ) (table answer work : List ℕ) (count : ℕ) → (n ≤ 128 → fragments table ≤ 128 → count < base) → HostFits base (decide (removalRules n table answer work) (accepted count))
   unfolding removalRules lentStages
   removal-fits n table answer work count bound = sized-fits n table _ count λ hn hm.
-      (stage-more _ _ (work-named work) (stage-more _ _ (length-named answer _ _ none-named) (records-named n table hm)), bound hn hm)
+      (stage-more _ _ (work-named work) (stage-more _ _ (length-named answer _ _ none-named) (stage-more _ _ (gapless-named n table hm) no-stage)), bound hn hm)
 
 -- ---- the outcomes
 

@@ -1,8 +1,8 @@
--- The lines of a listing are tied to the table's verdict: no service refuses a table that is accepted, but C by 12.
+-- The lines of a listing are tied to the table's verdict: no service refuses a table that is accepted, but S and F by 8, and C by 12.
 -- Assumes nothing.
 use mathlib.Core.Path.{_≡_, refl, sym, ap, _∙_}
 use mathlib.Core.Logic.{_↔_, _⊎_, inl, inr}
-use mathlib.Core.List.{List, [], _∷_}
+use mathlib.Core.List.{List}
 use Prim.Native.Nat.{ℕ, zero, suc, _*_, _≤_, _<_}
 use Prim.Native.Char.{Char, code}
 use native.Mathlib.Nat.{le-of-eq}
@@ -11,18 +11,17 @@ use lib.ListN.{length, getD}
 use Rattle.records.specs.Outcome.{Verdict, accepted}
 use Rattle.records.specs.Table.{columnCount}
 use Rattle.records.specs.Rules.{tableVerdict}
-use Rattle.conflicts.specs.Grid.{Grid, gridOf}
+use Rattle.conflicts.specs.Grid.{gridOf}
 use Rattle.conflicts.specs.Answer.{answerSize}
 use Rattle.conflicts.specs.Minimality.{AgreeingClasses, SnpRemoval, FragmentRemoval, Corrected}
-use Rattle.conflicts.specs.Services.{correctionsLeaves}
-use Rattle.conflicts.specs.Served.{Accepts, RefusesDeep}
+use Rattle.conflicts.specs.Served.{Accepts, Refuses, FirstGapped, TooDeep}
 use Rattle.conflicts.proofs.GridLaws.{classes-agree}
 use Rattle.conflicts.proofs.Outcomes.{check-yes, snp-accepted, fragment-accepted}
 use Rattle.conflicts.proofs.CorrectionsMinimality.{corrections-accepted}
 use Rattle.conflicts.proofs.AcceptedServices.{served}
 use Rattle.below.specs.Text.{ascii}
 use Rattle.listing.specs.Listing.{errorFreeLine, serviceLine, blank, checkLine, snpLine, fragmentLine, correctionLine, listed, listing}
-use Rattle.listing.specs.Lines.{ServicesSay, FieldsLine, DeepLine, LinesSay, ListingSays}
+use Rattle.listing.specs.Lines.{ServicesSay, FieldsLine, RefusalLine, LinesSay, ListingSays}
 use Rattle.listing.proofs.ListingLaws.{length-blank}
 
 -- the two second lines differ, in the twelfth byte
@@ -38,15 +37,14 @@ module _ {Holds : Type 0} (text : List ℕ) where
   line-says zero e w = ((λ d. w .0 refl, λ h. e), (λ d. absurd (yes-no (sym e ∙ d)), λ f. absurd (f (w .0 refl))))
   line-says (suc k) e w = ((λ d. absurd (yes-no (sym d ∙ e)), λ h. absurd (let z = w .1 h in omega arith)), (λ d h. let z = w .1 h in omega arith, λ f. e))
 
--- a service that accepts prints its fields, and one that refuses by 12 its refusal
-fields-line : (letter : Char) (m n : ℕ) (Means : List ℕ → ℕ → Type 0) (verdict : Verdict) (left : List ℕ) (s : Accepts verdict) → Means left (s .count)
-    → FieldsLine letter m n Means (serviceLine (code letter) m n verdict left)
+-- a service that accepts prints its fields, and one that refuses its refusal
+service-says : (letter : Char) (m n number : ℕ) (Means : List ℕ → ℕ → Type 0) (At : ℕ → Type 0) (verdict : Verdict) (left : List ℕ) → ((count : ℕ) → verdict ≡ accepted count → Means left count)
+    → Accepts verdict ⊎ Refuses number At verdict → FieldsLine letter m n Means (serviceLine (code letter) m n verdict left) ⊎ RefusalLine letter number At (serviceLine (code letter) m n verdict left)
 unfolding serviceLine
-fields-line letter m n Means verdict left s means = record { count = s .count; answer = left; means = means; prints = ap (λ (v : Verdict). serviceLine (code letter) m n v left) (s .is) }
-
-deep-line : (m n : ℕ) (g : Grid) (verdict : Verdict) (left : List ℕ) → RefusesDeep g verdict → DeepLine g (serviceLine (code "C") m n verdict left)
-unfolding serviceLine ascii
-deep-line m n g verdict left s = record { place = s .place; deep = s .deep; prints = ap (λ (v : Verdict). serviceLine (code "C") m n v left) (s .is) }
+service-says letter m n number Means At verdict left means (inl s) =
+    inl (record { count = s .count; answer = left; means = means (s .count) (s .is); prints = ap (λ (v : Verdict). serviceLine (code letter) m n v left) (s .is) })
+service-says letter m n number Means At verdict left means (inr s) =
+    inr (record { place = s .place; at = s .at; prints = ap (λ (v : Verdict). serviceLine (code letter) m n v left) (s .is) })
 
 module _ (n m : ℕ) (table : List ℕ) (e : tableVerdict n table ≡ accepted m) where
   abbrev answer : List ℕ
@@ -78,25 +76,21 @@ module _ (n m : ℕ) (table : List ℕ) (e : tableVerdict n table ≡ accepted m
       let a = classes-agree (gridOf n table) in
       line-says _ (s .count) (ap errorFreeLine (s .is)) (λ z. a .0 (w .0 z), λ h. w .1 (a .1 h))
 
-  snps-say : FieldsLine "S" m n (SnpRemoval (gridOf n table)) (snpLine m n table)
+  snps-say : FieldsLine "S" m n (SnpRemoval (gridOf n table)) (snpLine m n table) ⊎ RefusalLine "S" 8 (FirstGapped table) (snpLine m n table)
   unfolding snpLine
-  snps-say = let s = services-say .snps in fields-line "S" m n (SnpRemoval (gridOf n table)) _ _ s (snp-accepted n table answer work (s .count) (s .is) .0)
+  snps-say = service-says "S" m n 8 (SnpRemoval (gridOf n table)) (FirstGapped table) _ _ (λ count is. snp-accepted n table answer work count is .0) (services-say .snps)
 
-  fragments-say : FieldsLine "F" m n (FragmentRemoval (gridOf n table)) (fragmentLine m n table)
+  fragments-say : FieldsLine "F" m n (FragmentRemoval (gridOf n table)) (fragmentLine m n table) ⊎ RefusalLine "F" 8 (FirstGapped table) (fragmentLine m n table)
   unfolding fragmentLine
-  fragments-say = let s = services-say .fragments in fields-line "F" m n (FragmentRemoval (gridOf n table)) _ _ s (fragment-accepted n table answer work (s .count) (s .is) .0)
+  fragments-say = service-says "F" m n 8 (FragmentRemoval (gridOf n table)) (FirstGapped table) _ _ (λ count is. fragment-accepted n table answer work count is .0) (services-say .fragments)
 
   abbrev Corrects : List ℕ → ℕ → Type 0
   Corrects left count = (fixed : List ℕ) × Corrected n table left fixed count
 
-  corrections-say : ((j : ℕ) → j < length table → getD table j 0 < 256) → FieldsLine "C" m n Corrects (correctionLine m n table) ⊎ DeepLine (gridOf n table) (correctionLine m n table)
+  corrections-say : ((j : ℕ) → j < length table → getD table j 0 < 256) → FieldsLine "C" m n Corrects (correctionLine m n table) ⊎ RefusalLine "C" 12 (TooDeep (gridOf n table)) (correctionLine m n table)
   unfolding correctionLine
-  corrections-say bytes = go (services-say .corrections)
-    where
-      go : Accepts (correctionsLeaves n table answer output work .outcome) ⊎ RefusesDeep (gridOf n table) (correctionsLeaves n table answer output work .outcome)
-          → FieldsLine "C" m n Corrects (correctionLine m n table) ⊎ DeepLine (gridOf n table) (correctionLine m n table)
-      go (inl s) = inl (fields-line "C" m n Corrects _ _ s (_, corrections-accepted n table answer output work (s .count) (s .is) bytes .0))
-      go (inr s) = inr (deep-line m n (gridOf n table) _ _ s)
+  corrections-say bytes =
+      service-says "C" m n 12 Corrects (TooDeep (gridOf n table)) _ _ (λ count is. (_, corrections-accepted n table answer output work count is bytes .0)) (services-say .corrections)
 
   -- the lines of a table that is accepted
   pub lines : LinesSay n m table

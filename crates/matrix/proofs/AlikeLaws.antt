@@ -1,24 +1,26 @@
--- More of `conflicts`' SameLaws: matrices of one size with the same cells have the same depths, gaps and corrections.
+-- More of `conflicts`' SameLaws: matrices of one size with the same cells have the same coverage, gaps and corrections.
 -- Assumes nothing.
 use mathlib.Core.Path.{_≡_, ap, ap₂, _∙_, fun-ext}
 use mathlib.Core.List.{List, []}
 use Prim.Native.Nat.{ℕ, suc, _<_}
 use lib.ListN.{getD}
-use Rattle.below.specs.Below.{nth, if_then_else_, isnt, _==_, _and_}
+use Rattle.below.specs.Below.{nth, if_then_else_, isnt, _==_, _≤?_, _and_}
 use Rattle.records.specs.Record.{isCall}
-use Rattle.below.proofs.BelowLaws.{all-ext, sum-ext, count-ext}
+use Rattle.below.proofs.BelowLaws.{all-ext, any-ext, sum-ext, count-ext}
 use Rattle.records.proofs.SoundLaws.{gap-same}
 use Rattle.conflicts.specs.Choice.{firstLeast, keepAll}
-use Rattle.conflicts.specs.Grid.{Grid, withCells, gapless, depth}
+use Rattle.conflicts.specs.Grid.{Grid, withCells, gapless, stretchCovers, coverage}
 use Rattle.conflicts.specs.Sides.{sideLists}
 use Rattle.conflicts.specs.Corrections.{correctionCost, sideCount, sidePrice, columnCost, cost, leastCostSides, majorityLetter, sideLetter, correctedCell, corrected}
 use Rattle.conflicts.specs.Answer.{answer, correctedGrid, correctionAnswer}
 use Rattle.conflicts.proofs.SameLaws.{answer-cells}
 
 module _ (g : Grid) (cell : ℕ → ℕ → ℕ) (same : (i c : ℕ) → i < g .m → c < g .n → g .cell i c ≡ cell i c) where
-  pub depth-cells : (c : ℕ) → c < g .n → depth g c ≡ depth (withCells g cell) c
-  unfolding depth withCells
-  depth-cells c hc = count-ext (g .m) _ _ (λ i hi. ap isCall (same i c hi hc))
+  pub coverage-cells : (c : ℕ) → coverage g c ≡ coverage (withCells g cell) c
+  unfolding coverage stretchCovers withCells
+  coverage-cells c = count-ext (g .m) _ _ λ i hi. ap₂ _and_
+      (any-ext (g .n) _ _ (λ a ha. ap (λ (x : ℕ). a ≤? c and isCall x) (same i a hi ha)))
+      (any-ext (g .n) _ _ (λ b hb. ap (λ (x : ℕ). c ≤? b and isCall x) (same i b hi hb)))
 
   pub gapless-cells : gapless g ≡ gapless (withCells g cell)
   unfolding gapless withCells

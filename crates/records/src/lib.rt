@@ -13,6 +13,7 @@ pub use fields::start;
 pub use fields::tag;
 pub use rows::clear;
 pub use rows::fill_row;
+pub use rules::gapless_fault;
 pub use rules::records_fault;
 pub use rules::size_fault;
 pub use rules::table_fault;

@@ -2,11 +2,12 @@
 ghost use mathlib.Core.Path.{_≡_};
 ghost use Prim.Native.Nat.{_<_, _≤_};
 ghost use lib.ListN.{length};
-ghost use Rattle.below.specs.Below.{if_then_else_, _==_, _≤?_, _and_, isnt, anyBelow};
+ghost use Rattle.below.specs.Below.{if_then_else_, _==_, _≤?_, _and_, isnt, anyBelow, tab, concat};
 ghost use Rattle.records.specs.Record.{tagOf, spanOf, cellOf};
 ghost use Rattle.records.specs.Table.{fragments, recordAt};
 ghost use Rattle.records.specs.Outcome.{accepted, outcomeOf};
-ghost use Rattle.records.specs.Rules.{decide, outOfFrame, strayBits, openEnd, recordRules, tableRules, sizeRules, tableVerdict};
+ghost use Rattle.records.specs.Rules.{decide, outOfFrame, strayBits, openEnd, tableRules, gaplessTableRules, sizeRules, tableVerdict};
+ghost use Rattle.records.specs.Algorithm.Kept.{rulesOf};
 use crate::Outcome;
 use crate::fields::byte;
 use crate::fields::byte7;
@@ -109,10 +110,20 @@ fn open_end(part: &[u8]) -> bool
     cell(part, k - 1) == 0
 }
 
-// Record i by 4 to 9. A hole of the span lies between two calls once 6 and 7 are kept.
-fn record_fault(n: usize, table: &[u8], i: usize) -> Outcome
+// Whether a hole of the span refuses the record, by the worst code of the span.
+fn hole_refused(gapless: bool, worst: usize) -> bool
+    ensures { λ r. ⌜ r ≡ (gapless and worst == 0) ⌝ }
+{
+    if gapless {
+        return worst == 0;
+    }
+    false
+}
+
+// Record i by 4 to 7 and 9, and by 8 where it must be gapless. A hole of the span lies between two calls once 6 and 7 are kept.
+fn record_fault(n: usize, table: &[u8], gapless: bool, i: usize) -> Outcome
     requires { ⌜ i < fragments (now table) ⌝ }
-    ensures { λ r. ⌜ outcomeOf r ≡ decide (recordRules n (now (table .entry)) i) (accepted 0) ⌝ }
+    ensures { λ r. ⌜ outcomeOf r ≡ decide (rulesOf gapless n (now (table .entry)) i) (accepted 0) ⌝ }
 {
     let part = record_at(table, i);
     if out_of_frame(n, part) {
@@ -128,7 +139,7 @@ fn record_fault(n: usize, table: &[u8], i: usize) -> Outcome
     if open_end(part) {
         return Outcome::Refused(7, i);
     }
-    if worst == 0 {
+    if hole_refused(gapless, worst) {
         return Outcome::Refused(8, i);
     }
     if any_tag(table, tag(part), i) {
@@ -137,20 +148,34 @@ fn record_fault(n: usize, table: &[u8], i: usize) -> Outcome
     Outcome::Accepted(0)
 }
 
-// The records from 0, each by 4 to 9: the first fault, or the number of records.
-pub fn records_fault(n: usize, table: &[u8]) -> Outcome
-    ensures { λ r. ⌜ outcomeOf r ≡ decide (tableRules n (now (table .entry))) (accepted (fragments (now (table .entry)))) ⌝ }
+// The records from 0, each by its rules: the first fault, or the number of records.
+fn first_fault(n: usize, table: &[u8], gapless: bool) -> Outcome
+    ensures { λ r. ⌜ outcomeOf r ≡ decide (concat (tab (fragments (now (table .entry))) (rulesOf gapless n (now (table .entry))))) (accepted (fragments (now (table .entry)))) ⌝ }
 {
     let m = table.len() / 32;
     let mut i = 0;
     while i < m {
-        let fault = record_fault(n, table, i);
+        let fault = record_fault(n, table, gapless, i);
         if let Outcome::Refused(number, place) = fault {
             return Outcome::Refused(number, place);
         }
         i += 1;
     }
     Outcome::Accepted(m)
+}
+
+// The records from 0, each by 4 to 7 and 9: the first fault, or the number of records.
+pub fn records_fault(n: usize, table: &[u8]) -> Outcome
+    ensures { λ r. ⌜ outcomeOf r ≡ decide (tableRules n (now (table .entry))) (accepted (fragments (now (table .entry)))) ⌝ }
+{
+    first_fault(n, table, false)
+}
+
+// The records from 0, each by 4 to 9: the first fault, or the number of records.
+pub fn gapless_fault(n: usize, table: &[u8]) -> Outcome
+    ensures { λ r. ⌜ outcomeOf r ≡ decide (gaplessTableRules n (now (table .entry))) (accepted (fragments (now (table .entry)))) ⌝ }
+{
+    first_fault(n, table, true)
 }
 
 // The sizes by 3, 1, 2: the first fault, or the number of records.

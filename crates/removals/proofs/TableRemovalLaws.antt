@@ -3,10 +3,8 @@
 use mathlib.Core.Path.{_≡_, sym, ap, ap₂, subst, _∙_}
 use mathlib.Core.Bool.{Bool, true}
 use mathlib.Core.List.{List}
-use Prim.Native.Nat.{ℕ, _≤_, _<_}
-use native.Mathlib.Omega.{arith}
+use Prim.Native.Nat.{ℕ}
 use lib.Dec.{T}
-use lib.ListN.{length}
 use Rattle.below.specs.Below.{if_then_else_}
 use Rattle.records.specs.Table.{fragments}
 use Rattle.records.specs.Outcome.{Verdict}
@@ -25,12 +23,12 @@ use Rattle.matrix.specs.Algorithm.Cells.{tableCells}
 use Rattle.phasing.specs.Algorithm.Answer.{AnswerFound}
 use Rattle.matrix.proofs.TableLaws.{cells-snpKeepMarks, cells-fragmentKeepMarks}
 use Rattle.phasing.proofs.TableLaws.{cells-found}
-use Rattle.records.specs.Algorithm.Kept.{SizesKept, RecordsKept}
+use Rattle.records.specs.Algorithm.Kept.{SizesKept}
 use Rattle.removals.specs.Meanings.{SnpSays, FragmentSays}
 use Rattle.matrix.proofs.KeptLaws.{few, grid-is}
 use Rattle.removals.proofs.RemovalLaws.{Leaves, removalVerdict}
 
-module _ (n : ℕ) (table : List ℕ) (narrow : n ≤ 128) (few : fragments table ≤ 128) (kept : RecordsKept n table) where
+module _ (n : ℕ) (table : List ℕ) where
   -- phasing what is error-free writes the answer of its first lawful sides
   bytes-phased : {keep frags before after : List ℕ} {ok : Bool} (cols rows : List ℕ) → keep ≡ cols → frags ≡ rows → T (errorFree 2 (gridOf n table) cols rows)
       → AnswerFound (gridOf n table) keep frags ok before after → after ≡ answer (gridOf n table) cols (firstSides 2 (gridOf n table) cols rows)
@@ -52,24 +50,24 @@ module _ (n : ℕ) (table : List ℕ) (narrow : n ≤ 128) (few : fragments tabl
   unfolding fragmentAnswer gridOf
   bytes-fragments e f found = bytes-phased _ _ e f (fragments-free (gridOf n table)) found
 
-module _ {n m : ℕ} {table cells : List ℕ} (sized : SizesKept n m table) (kept : RecordsKept n table) (same : cells ≡ tableCells n table) where
+module _ {n m : ℕ} {table cells : List ℕ} (sized : SizesKept n m table) (same : cells ≡ tableCells n table) where
   pub table-marks : snpKeepMarks (matrixGrid m n cells) ≡ snpKeepMarks (gridOf n table)
-  table-marks = ap snpKeepMarks (grid-is sized kept same) ∙ cells-snpKeepMarks n table (sized-n sized) (few sized kept same)
+  table-marks = ap snpKeepMarks (grid-is sized same) ∙ cells-snpKeepMarks n table (sized-n sized) (few sized same)
 
   pub table-answer : {keep frags before after : List ℕ} {ok : Bool} → keep ≡ snpKeepMarks (matrixGrid m n cells) → frags ≡ keepAll m
       → AnswerFound (matrixGrid m n cells) keep frags ok before after → after ≡ snpAnswer (gridOf n table)
   table-answer {keep} {frags} {before} {after} {ok} e f found =
-      bytes-answer n table (sized-n sized) (few sized kept same) kept (e ∙ table-marks) (f ∙ ap keepAll (sym (sized-count sized)))
-      (cells-found n table (sized-n sized) (few sized kept same) (subst (λ g. AnswerFound g keep frags ok before after) (grid-is sized kept same) found))
+      bytes-answer n table (e ∙ table-marks) (f ∙ ap keepAll (sym (sized-count sized)))
+      (cells-found n table (sized-n sized) (few sized same) (subst (λ g. AnswerFound g keep frags ok before after) (grid-is sized same) found))
 
   pub table-fragments : fragmentKeepMarks (matrixGrid m n cells) ≡ fragmentKeepMarks (gridOf n table)
-  table-fragments = ap fragmentKeepMarks (grid-is sized kept same) ∙ cells-fragmentKeepMarks n table (sized-n sized) (few sized kept same)
+  table-fragments = ap fragmentKeepMarks (grid-is sized same) ∙ cells-fragmentKeepMarks n table (sized-n sized) (few sized same)
 
   pub table-fragment-answer : {keep frags before after : List ℕ} {ok : Bool} → keep ≡ keepAll n → frags ≡ fragmentKeepMarks (matrixGrid m n cells)
       → AnswerFound (matrixGrid m n cells) keep frags ok before after → after ≡ fragmentAnswer (gridOf n table)
   table-fragment-answer {keep} {frags} {before} {after} {ok} e f found =
-      bytes-fragments n table (sized-n sized) (few sized kept same) kept e (f ∙ table-fragments)
-      (cells-found n table (sized-n sized) (few sized kept same) (subst (λ g. AnswerFound g keep frags ok before after) (grid-is sized kept same) found))
+      bytes-fragments n table e (f ∙ table-fragments)
+      (cells-found n table (sized-n sized) (few sized same) (subst (λ g. AnswerFound g keep frags ok before after) (grid-is sized same) found))
 
 -- what a removal leaves, for S's count and answer, is what S leaves, and it means what demand 3 says
 module _ (n : ℕ) (table lent work : List ℕ) {v : Verdict} {w a : List ℕ} where

@@ -9,7 +9,7 @@ ghost use Rattle.conflicts.specs.Removal.{fragmentKeepMarks};
 ghost use Rattle.conflicts.specs.Answer.{answerSize, fragmentAnswer};
 ghost use Rattle.conflicts.specs.Services.{fragmentRemovalLeaves};
 ghost use Rattle.matrix.specs.Algorithm.Cells.{tableCells};
-ghost use Rattle.records.specs.Algorithm.Kept.{SizesKept, RecordsKept};
+ghost use Rattle.records.specs.Algorithm.Kept.{SizesKept, GaplessKept};
 ghost use Rattle.removals.specs.Meanings.{FragmentSays};
 use fragment_removal::fragment_keep_marks;
 use masks::fill_masks;
@@ -32,7 +32,7 @@ fn phase_fragments(
     answer: &mut [u8],
 ) -> usize
     requires { ⌜ SizesKept n m (now table) ⌝ }
-    requires { ⌜ RecordsKept n (now table) ⌝ }
+    requires { ⌜ GaplessKept n (now table) ⌝ }
     requires { ⌜ now cells ≡ tableCells n (now table) ⌝ }
     requires { ⌜ 32768 ≤ length (now work) ⌝ }
     requires { ⌜ length (now keep) ≡ m ⌝ }
@@ -52,7 +52,7 @@ fn phase_fragments(
 // The number of removed fragments, the work all zero, and the answer.
 fn remove_fragments(n: usize, m: usize, table: &[u8], work: &mut [u16], answer: &mut [u8]) -> usize
     requires { ⌜ SizesKept n m (now table) ⌝ }
-    requires { ⌜ RecordsKept n (now table) ⌝ }
+    requires { ⌜ GaplessKept n (now table) ⌝ }
     requires { ⌜ 32768 ≤ length (now work) ⌝ }
     requires { ⌜ length (now answer) ≡ answerSize m n ⌝ }
     ensures count { λ r. ⌜ r ≡ zeros (fragmentKeepMarks (gridOf n (now (table .entry)))) ⌝ }

@@ -8,7 +8,7 @@ ghost use Rattle.conflicts.specs.Removal.{snpKeepMarks};
 ghost use Rattle.conflicts.specs.Answer.{answerSize, snpAnswer};
 ghost use Rattle.conflicts.specs.Services.{snpRemovalLeaves};
 ghost use Rattle.matrix.specs.Algorithm.Cells.{tableCells};
-ghost use Rattle.records.specs.Algorithm.Kept.{SizesKept, RecordsKept};
+ghost use Rattle.records.specs.Algorithm.Kept.{SizesKept, GaplessKept};
 ghost use Rattle.removals.specs.Meanings.{SnpSays};
 use masks::fill_masks;
 use masks::mask_room;
@@ -32,7 +32,7 @@ fn phase_kept(
     answer: &mut [u8],
 ) -> usize
     requires { ⌜ SizesKept n m (now table) ⌝ }
-    requires { ⌜ RecordsKept n (now table) ⌝ }
+    requires { ⌜ GaplessKept n (now table) ⌝ }
     requires { ⌜ now cells ≡ tableCells n (now table) ⌝ }
     requires { ⌜ now frags ≡ keepAll m ⌝ }
     requires { ⌜ length (now keep) ≡ n ⌝ }
@@ -50,7 +50,7 @@ fn phase_kept(
 // The number of removed columns, and the answer.
 fn remove_snps(n: usize, m: usize, table: &[u8], answer: &mut [u8]) -> usize
     requires { ⌜ SizesKept n m (now table) ⌝ }
-    requires { ⌜ RecordsKept n (now table) ⌝ }
+    requires { ⌜ GaplessKept n (now table) ⌝ }
     requires { ⌜ length (now answer) ≡ answerSize m n ⌝ }
     ensures count { λ r. ⌜ r ≡ zeros (snpKeepMarks (gridOf n (now (table .entry)))) ⌝ }
     ensures answer { λ _. ⌜ now (answer .exit) ≡ snpAnswer (gridOf n (now (table .entry))) ⌝ }

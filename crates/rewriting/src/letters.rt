@@ -1,14 +1,23 @@
 // The letters that the sides turn to, and the cells after correction.
-use crate::depth::one_if;
 use records::is_call;
 ghost use mathlib.Core.Path.{_≡_};
 ghost use Prim.Native.Nat.{_≤_, _<_};
 ghost use lib.ListN.{length};
-ghost use Rattle.below.specs.Below.{nth, if_then_else_, tab, _==_, _and_};
+ghost use Rattle.below.specs.Below.{bit, nth, if_then_else_, tab, _==_, _and_};
 ghost use Rattle.records.specs.Record.{isCall};
 ghost use Rattle.matrix.specs.Algorithm.Matrix.{matrixGrid, Matrix};
 ghost use Rattle.conflicts.specs.Corrections.{sideCount, sideLetter, majorityLetter};
 ghost use Rattle.rewriting.specs.Algorithm.Letters.{correctedCells, OnSides, correctedAt};
+
+// 1 where a test passes, and 0 where it fails.
+fn one_if(test: bool) -> usize
+    ensures { λ r. ⌜ (r ≡ bit test) × (r ≤ 1) ⌝ }
+{
+    if test {
+        return 1;
+    }
+    0
+}
 
 // Whether a cell of a fragment on a side is the letter, on side s.
 fn is_letter(x: u8, side: u8, s: u8, letter: u8) -> bool

@@ -1,8 +1,6 @@
-// What C does around its elimination: rule 12's column before it, the cells and the records after correction behind it.
-mod depth;
+// What C does behind its elimination: the cells and the records after correction.
 mod letters;
 mod table;
 
-pub use depth::first_deep;
 pub use letters::correct_cells;
 pub use table::fill_records;

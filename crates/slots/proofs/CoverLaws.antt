@@ -1,24 +1,22 @@
 -- The fragments of a matrix start and cover as the events want it; a column's cost looks only at them, and is bounded by how many they are.
 -- Assumes nothing.
-use mathlib.Core.Path.{_≡_, refl, ap, ap₂, subst}
+use mathlib.Core.Path.{_≡_, refl, ap, ap₂}
 use mathlib.Core.Bool.{Bool, true, false}
 use Prim.Native.Nat.{ℕ, suc, _-_, _≤_, _<_, zero-le}
-use native.Mathlib.Nat.{le-refl, le-trans, le-of-eq, min-le-left}
-use native.Mathlib.Decide.{ℕ-discrete}
+use native.Mathlib.Nat.{le-refl, min-le-left}
 use native.Mathlib.Omega.{arith}
 use lib.Dec.{T}
 use Rattle.below.specs.Below.{if_then_else_, bit, sumBelow, countBelow, _==_, _<?_, _≤?_, _and_}
 use Rattle.records.specs.Record.{isCall}
-use Rattle.records.specs.Rules.{gapIn}
 use Rattle.records.specs.Writing.{callsEnd}
-use Rattle.below.proofs.BelowLaws.{both, left-of, right-of, T-isnt, if-ind, ==-eq, eq-==, <?-lt, lt-<?, ≤?-le, le-≤?, same-test, allBelow-at, anyBelow-of, sum-ext, sum-le, count-ext, firstBelow-le, firstBelow-at, firstBelow-least}
-use Rattle.records.proofs.ExtentLaws.{endBelow-le, endBelow-at, endBelow-past, call-of, call-range}
-use Rattle.conflicts.specs.Grid.{Grid, gapless, depth}
+use Rattle.below.proofs.BelowLaws.{both, left-of, right-of, if-ind, ==-eq, <?-lt, lt-<?, ≤?-le, le-≤?, same-test, anyBelow-at, anyBelow-of, sum-ext, sum-le, count-ext, firstBelow-le, firstBelow-at, firstBelow-least}
+use Rattle.records.proofs.ExtentLaws.{endBelow-le, endBelow-at, endBelow-past, call-of}
+use Rattle.conflicts.specs.Grid.{Grid, stretchCovers, coverage}
 use Rattle.conflicts.specs.Corrections.{correctionCost, sidePrice, sideCount, columnCost}
 use Rattle.events.specs.Algorithm.Weights.{columnWeight}
 use Rattle.events.proofs.EventLaws.{Local, local-weight}
 use Rattle.events.proofs.ColumnLaws.{Starts}
-use Rattle.slots.specs.Algorithm.Columns.{firstColumn, endColumn, covers, coverage, Shallow}
+use Rattle.slots.specs.Algorithm.Columns.{firstColumn, endColumn, covers}
 use Rattle.conflicts.specs.Served.{NoneDeep}
 
 module _ (g : Grid) where
@@ -52,6 +50,37 @@ module _ (g : Grid) where
   unfolding firstColumn
   start-le i = firstBelow-le (g .n) _
 
+  -- ---- the coverage that rule 12 counts
+
+  stretch-inside : (c i : ℕ) → i < g .m → T (stretchCovers g c i) → T (covers g c i)
+  unfolding stretchCovers firstColumn endColumn callsEnd
+  stretch-inside c i hi t =
+      let a = anyBelow-at (g .n) _ (left-of _ _ t) in
+      let b = anyBelow-at (g .n) _ (right-of _ _ t) in
+      let before = ≤?-le _ _ (left-of _ _ (a .2)) in
+      let after = ≤?-le _ _ (left-of _ _ (b .2)) in
+      let first = firstBelow-least (g .n) (λ x. isCall (g .cell i x)) (a .0) (a .1) (right-of _ _ (a .2)) in
+      let last = endBelow-past (g .n) (λ x. isCall (g .cell i x)) (b .0) (b .1) (right-of _ _ (b .2)) in
+      covers-of c i hi (omega arith) (omega arith)
+
+  stretch-around : (c i : ℕ) → c < g .n → T (covers g c i) → T (stretchCovers g c i)
+  unfolding stretchCovers firstColumn endColumn callsEnd
+  stretch-around c i hc t =
+      let r = covers-at c i t in
+      let from = r .1 in
+      let to = r .2 in
+      let most = endBelow-le (g .n) (λ x. isCall (g .cell i x)) in
+      let first = firstBelow-at (g .n) (λ x. isCall (g .cell i x)) (omega arith) in
+      let last = endBelow-at (g .n) (λ x. isCall (g .cell i x)) (omega arith) in
+      both _ _
+      (anyBelow-of (g .n) _ (firstColumn g i) (omega arith) (both _ _ (le-≤? _ _ from) first))
+      (anyBelow-of (g .n) _ (endColumn g i - 1) (omega arith) (both _ _ (le-≤? _ _ (omega arith)) last))
+
+  -- how many fragments cover a column
+  pub coverage-is : (c : ℕ) → c < g .n → coverage g c ≡ countBelow (g .m) (covers g c)
+  unfolding coverage
+  coverage-is c hc = count-ext (g .m) _ _ (λ i hi. same-test _ _ (stretch-inside c i hi) (stretch-around c i hc))
+
   -- ---- a column's cost
 
   -- a cell with a letter is a call
@@ -84,8 +113,8 @@ module _ (g : Grid) where
   weight-local k = local-weight (cost-local k)
 
   -- a letter occurs at most once for each fragment that covers the column
-  letter-bound : (s : ℕ → ℕ) (x c letter : ℕ) → 0 < letter → letter ≤ 2 → c < g .n → sideCount g s x c letter ≤ coverage g c
-  unfolding sideCount coverage countBelow correctionCost
+  letter-bound : (s : ℕ → ℕ) (x c letter : ℕ) → 0 < letter → letter ≤ 2 → c < g .n → sideCount g s x c letter ≤ countBelow (g .m) (covers g c)
+  unfolding sideCount countBelow correctionCost
   letter-bound s x c letter lo hi hc =
       sum-le (g .m) _ _ λ i l. if-ind (λ y. y ≤ bit (covers g c i)) (s i == x and g .cell i c == letter)
       (λ t. one (covers g c i) (called-covers c i hc l (letter-call c i letter lo hi (right-of _ _ t)))) (λ t. zero-le)
@@ -94,45 +123,13 @@ module _ (g : Grid) where
       one true t = le-refl 1
       one false t = absurd t
 
-  pub cost-bound : Shallow g → (c : ℕ) (s : ℕ → ℕ) → c < g .n → columnCost 2 g c s ≤ 16
+  pub cost-bound : NoneDeep g → (c : ℕ) (s : ℕ → ℕ) → c < g .n → columnCost 2 g c s ≤ 16
   unfolding columnCost sumBelow sidePrice
   cost-bound sh c s lt =
       let d = sh .shallow c lt in
+      let e = coverage-is c lt in
       let a = letter-bound s 1 c 1 (omega arith) (omega arith) lt in
       let b = letter-bound s 2 c 1 (omega arith) (omega arith) lt in
       let p = min-le-left (sideCount g s 1 c 1) (sideCount g s 1 c 2) in
       let q = min-le-left (sideCount g s 2 c 1) (sideCount g s 2 c 2) in
       omega arith
-
-  -- ---- gapless tables
-
-  -- a fragment without a hole between two calls calls each column that it covers
-  covers-calls : T (gapless g) → ((i c : ℕ) → i < g .m → c < g .n → g .cell i c ≤ 2) → (c i : ℕ) → c < g .n → T (covers g c i) → T (isCall (g .cell i c))
-  unfolding gapless firstColumn endColumn callsEnd gapIn
-  covers-calls whole codes c i hc t =
-      let r = covers-at c i t in
-      let a = r .1 in
-      let b = r .2 in
-      let e = endBelow-le (g .n) (λ c. isCall (g .cell i c)) in
-      let first = firstBelow-at (g .n) (λ c. isCall (g .cell i c)) (omega arith) in
-      let last = endBelow-at (g .n) (λ c. isCall (g .cell i c)) (omega arith) in
-      let no-gap = allBelow-at (g .m) _ whole i (r .0) in
-      elim (ℕ-discrete (g .cell i c) 0) [
-        | yes z ↦
-            let p = other c _ z first in
-            let q = other c _ z last in
-            absurd (T-isnt _ no-gap (anyBelow-of (g .n) _ c hc
-            (both _ _ (both _ _ (eq-== _ _ z) (anyBelow-of c _ (firstColumn g i) (omega arith) first)) (anyBelow-of (g .n) _ (endColumn g i - 1) (omega arith) (both _ _ (lt-<? _ _ (omega arith)) last)))))
-        | no ne ↦ let most = codes i c (r .0) hc in call-of (g .cell i c) (omega arith) most
-      ]
-    where
-      other : (c d : ℕ) → g .cell i c ≡ 0 → T (isCall (g .cell i d)) → c ≡ d → ⊥
-      other c d z t e = let q = call-range (g .cell i d) t in let s : g .cell i d ≡ 0 = subst (λ (x : ℕ). g .cell i x ≡ 0) e z in omega arith
-
-  pub gapless-coverage : T (gapless g) → ((i c : ℕ) → i < g .m → c < g .n → g .cell i c ≤ 2) → (c : ℕ) → c < g .n → coverage g c ≡ depth g c
-  unfolding coverage depth
-  gapless-coverage whole codes c lt = count-ext (g .m) _ _ (λ i l. same-test _ _ (covers-calls whole codes c i lt) (called-covers c i lt l))
-
-  -- a gapless table without a column of more than 8 calls is shallow
-  pub not-deep : T (gapless g) → ((i c : ℕ) → i < g .m → c < g .n → g .cell i c ≤ 2) → NoneDeep g → Shallow g
-  not-deep whole codes none = record { shallow = λ c lt. le-trans (le-of-eq (gapless-coverage whole codes c lt)) (none .shallow c lt) }

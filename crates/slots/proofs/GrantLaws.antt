@@ -13,14 +13,15 @@ use Rattle.below.specs.Below.{_==_, _<?_, _≤?_, _and_, isnt, countBelow, firs
 use Rattle.below.proofs.BelowLaws.{any-ext}
 use Rattle.below.proofs.SearchLaws.{<?-true, <?-false, ≤?-true, ≤?-false}
 use Rattle.conflicts.specs.Grid.{Grid}
+use Rattle.conflicts.specs.Served.{NoneDeep}
 use Rattle.ranks.specs.Algorithm.Tables.{Put}
 use Rattle.events.specs.Algorithm.Events.{withValue}
 use Rattle.events.specs.Algorithm.Slots.{turnOf, taken, used, freeSlot, Given}
 use Rattle.events.proofs.LeastLaws.{value-same, value-other}
 use Rattle.events.proofs.FreeLaws.{free-below, free-apart, given-none, given-skip, given-more, given-next, given-apart}
-use Rattle.slots.specs.Algorithm.Columns.{firstColumn, covers, coverage, Shallow}
+use Rattle.slots.specs.Algorithm.Columns.{firstColumn, covers}
 use Rattle.slots.specs.Algorithm.Spans.{hitSlot, usedBy, freeBy, Spans, Spanned, Granted, Slotted}
-use Rattle.slots.proofs.CoverLaws.{covers-of, grid-starts, start-le}
+use Rattle.slots.proofs.CoverLaws.{covers-of, grid-starts, start-le, coverage-is}
 
 -- ---- lists
 
@@ -103,9 +104,8 @@ module _ (g : Grid) (small : g .m ≤ 128) where
   given-at : (turn turn′ : ℕ) (s : ℕ → ℕ) → turn ≡ turn′ → Given start (covers g) (g .m) (g .n) 8 turn s → Given start (covers g) (g .m) (g .n) 8 turn′ s
   given-at turn turn′ s e h = subst (λ (x : ℕ). Given start (covers g) (g .m) (g .n) 8 x s) e h
 
-  deep : Shallow g → (c : ℕ) → c < g .n → countBelow (g .m) (covers g c) ≤ 8
-  unfolding coverage
-  deep sh c lt = sh .shallow c lt
+  deep : NoneDeep g → (c : ℕ) → c < g .n → countBelow (g .m) (covers g c) ≤ 8
+  deep sh c lt = subst (λ (k : ℕ). k ≤ 8) (coverage-is g c lt) (sh .shallow c lt)
 
   set-is : (slots : List ℕ) (f b x : ℕ) → f < length slots → getD (set slots f b) x 0 ≡ withValue f b (nth slots) x
   set-is slots f b x lt = elim (ℕ-discrete x f) [
@@ -122,7 +122,7 @@ module _ (g : Grid) (small : g .m ≤ 128) where
   -- ---- turn by turn
 
   -- the fragment's turn
-  pub grant : (slots : List ℕ) (c f b : ℕ) → Shallow g → c < g .n → f < g .m → start f ≡ c → b ≡ freeSlot start (covers g) (g .m) 8 c (c * 256 + f) (nth slots)
+  pub grant : (slots : List ℕ) (c f b : ℕ) → NoneDeep g → c < g .n → f < g .m → start f ≡ c → b ≡ freeSlot start (covers g) (g .m) 8 c (c * 256 + f) (nth slots)
       → Granted g (c * 256 + f) slots → Granted g (c * 256 + (f + 1)) (set slots f b)
   grant slots c f b sh lt few e eb h =
       let t : c * 256 + f ≡ turnOf start f = ap (λ (x : ℕ). x * 256 + f) (sym e) in

@@ -1,10 +1,8 @@
 // A slot below 8 for each fragment, which no other fragment has that covers one of its columns.
 ghost use mathlib.Core.Path.{_≡_};
 ghost use Prim.Native.Nat.{_+_, _*_, _<_, _≤_};
-ghost use lib.ListN.{length};
 ghost use Rattle.matrix.specs.Algorithm.Matrix.{matrixGrid, Matrix};
-ghost use Rattle.slots.specs.Algorithm.Columns.{Shallow, firstColumn, covers};
-ghost use Rattle.below.specs.Below.{nth};
+ghost use Rattle.conflicts.specs.Served.{NoneDeep};
 ghost use Rattle.slots.specs.Algorithm.Spans.{hitSlot, usedBy, freeBy, Spans, Spanned, Granted, Slotted};
 
 // A fragment from s to e at position x, with slot k: it covers column c, entered before the turn, and its slot is b.
@@ -78,7 +76,7 @@ fn slot_one(
     c: usize,
     f: usize,
 )
-    requires { ⌜ Matrix m n (now cells) × Spanned (matrixGrid m n (now cells)) (now starts) (now ends) × Shallow (matrixGrid m n (now cells)) × (c < n) × (f < m)
+    requires { ⌜ Matrix m n (now cells) × Spanned (matrixGrid m n (now cells)) (now starts) (now ends) × NoneDeep (matrixGrid m n (now cells)) × (c < n) × (f < m)
         × Granted (matrixGrid m n (now cells)) (c * 256 + f) (now slots) ⌝ }
     ensures { λ _. ⌜ Granted (matrixGrid m n (now (cells .entry))) (c * 256 + (f + 1)) (now (slots .exit)) ⌝ }
 {
@@ -99,7 +97,7 @@ fn slot_column(
     slots: &mut [usize],
     c: usize,
 )
-    requires { ⌜ Matrix m n (now cells) × Spanned (matrixGrid m n (now cells)) (now starts) (now ends) × Shallow (matrixGrid m n (now cells)) × (c < n)
+    requires { ⌜ Matrix m n (now cells) × Spanned (matrixGrid m n (now cells)) (now starts) (now ends) × NoneDeep (matrixGrid m n (now cells)) × (c < n)
         × Granted (matrixGrid m n (now cells)) (c * 256 + 0) (now slots) ⌝ }
     ensures { λ _. ⌜ Granted (matrixGrid m n (now (cells .entry))) ((c + 1) * 256 + 0) (now (slots .exit)) ⌝ }
 {
@@ -119,7 +117,7 @@ pub fn fill_slots(
     ends: &[usize],
     slots: &mut [usize],
 )
-    requires { ⌜ Matrix m n (now cells) × Spanned (matrixGrid m n (now cells)) (now starts) (now ends) × Shallow (matrixGrid m n (now cells))
+    requires { ⌜ Matrix m n (now cells) × Spanned (matrixGrid m n (now cells)) (now starts) (now ends) × NoneDeep (matrixGrid m n (now cells))
         × Granted (matrixGrid m n (now cells)) (0 * 256 + 0) (now slots) ⌝ }
     ensures { λ _. ⌜ Slotted (matrixGrid m n (now (cells .entry))) (now (slots .exit)) ⌝ }
 {

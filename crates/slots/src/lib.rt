@@ -1,6 +1,8 @@
-// The spans of the fragments of a cell matrix, and a slot below 8 for each where at most 8 fragments cover a column.
+// The spans of the fragments of a cell matrix; rule 12's column, which more than 8 of them cover; and where there is none, a slot below 8 for each.
+mod depth;
 mod grants;
 mod spans;
 
+pub use depth::first_deep;
 pub use grants::fill_slots;
 pub use spans::fill_spans;

@@ -8,7 +8,7 @@ use lib.ListN.{length}
 use Rattle.below.specs.Below.{concat}
 use Rattle.records.specs.Table.{fragments}
 use Rattle.records.specs.Outcome.{Verdict, accepted, refused}
-use Rattle.records.specs.Rules.{Rule, decide, sizeRules, tableRules}
+use Rattle.records.specs.Rules.{Rule, decide, sizeRules, tableRules, gaplessTableRules}
 use Rattle.below.proofs.SearchLaws.{<?-true}
 use Rattle.below.proofs.BelowLaws.{is-true, ==-eq, ne-isnt, isnt-isnt, isnt-<?}
 use Rattle.records.proofs.RuleLaws.{rule-broken, decide-none, stage-kept, stage-refused, stage-last, stages-kept, stages-refused, accepted-count, accepted-stage, unbroken}
@@ -17,7 +17,7 @@ use Rattle.records.proofs.TableLaws.{length-whole}
 use Rattle.conflicts.specs.Answer.{answerSize}
 use Rattle.conflicts.specs.Services.{lengthRule, workRules, removalRules, lentStages, correctionStages}
 use Rattle.conflicts.proofs.AcceptedServices.{length-kept, work-kept}
-use Rattle.records.specs.Algorithm.Kept.{SizesKept, RecordsKept}
+use Rattle.records.specs.Algorithm.Kept.{SizesKept, RecordsKept, GaplessKept}
 
 -- ---- a length that is not exact, and one that is
 
@@ -78,29 +78,29 @@ module _ (n : ℕ) (table answer work : List ℕ) where
   pub removal-lent : (number place : ℕ) → decide (concat (lentStages n table answer work)) (accepted (fragments table)) ≡ refused number place
       → decide (removalRules n table answer work) (accepted (fragments table)) ≡ refused number place
   unfolding removalRules lentStages
-  removal-lent number place e = stages-refused (lentStages n table answer work) (tableRules n table ∷ []) _ _ number place e
+  removal-lent number place e = stages-refused (lentStages n table answer work) (gaplessTableRules n table ∷ []) _ _ number place e
 
   pub removal-records : (m : ℕ) → decide (concat (lentStages n table answer work)) (accepted (fragments table)) ≡ accepted m
-      → decide (removalRules n table answer work) (accepted (fragments table)) ≡ decide (tableRules n table) (accepted (fragments table))
+      → decide (removalRules n table answer work) (accepted (fragments table)) ≡ decide (gaplessTableRules n table) (accepted (fragments table))
   unfolding removalRules lentStages
-  removal-records m e = stages-kept (lentStages n table answer work) (tableRules n table ∷ []) _ _ m e ∙ stage-last _ _
+  removal-records m e = stages-kept (lentStages n table answer work) (gaplessTableRules n table ∷ []) _ _ m e ∙ stage-last _ _
 
   module _ (m : ℕ) (e : decide (removalRules n table answer work) (accepted (fragments table)) ≡ accepted m) where
     pub removal-sized : SizesKept n m table
     unfolding removalRules lentStages
-    removal-sized = stages-sized (tableRules n table ∷ []) m e
+    removal-sized = stages-sized (gaplessTableRules n table ∷ []) m e
 
     pub removal-work : 32768 ≤ length work
     unfolding removalRules lentStages
-    removal-work = stages-work (tableRules n table ∷ []) m e
+    removal-work = stages-work (gaplessTableRules n table ∷ []) m e
 
     pub removal-answer : length answer ≡ answerSize m n
     unfolding removalRules lentStages
-    removal-answer = stages-answer (tableRules n table ∷ []) m e
+    removal-answer = stages-answer (gaplessTableRules n table ∷ []) m e
 
-    pub removal-kept : RecordsKept n table
+    pub removal-kept : GaplessKept n table
     unfolding removalRules lentStages
-    removal-kept = record { count = _; kept = accepted-stage _ _ m e (tableRules n table) (List·Memᴰ·tail (List·Memᴰ·tail (List·Memᴰ·tail (List·Memᴰ·head refl)))) }
+    removal-kept = record { count = _; kept = accepted-stage _ _ m e (gaplessTableRules n table) (List·Memᴰ·tail (List·Memᴰ·tail (List·Memᴰ·tail (List·Memᴰ·head refl)))) }
 
 -- ---- the rules of C but 12
 

@@ -7,6 +7,7 @@ ghost use Rattle.records.specs.Rules.{decide};
 ghost use Rattle.conflicts.specs.Services.{removalRules, lentStages, correctionStages};
 ghost use Rattle.records.specs.Algorithm.Kept.{SizesKept};
 use records::Outcome;
+use records::gapless_fault;
 use records::records_fault;
 use records::size_fault;
 
@@ -42,7 +43,7 @@ pub fn removal_fault(n: usize, table: &[u8], work: &[u16], answer: &[u8]) -> Out
     let lent = lent_fault(n, table, work, answer);
     match lent {
         Outcome::Refused(number, place) => Outcome::Refused(number, place),
-        Outcome::Accepted(_) => records_fault(n, table),
+        Outcome::Accepted(_) => gapless_fault(n, table),
     }
 }
 

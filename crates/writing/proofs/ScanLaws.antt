@@ -1,20 +1,19 @@
 -- What a loop over a row's columns has found when it ends or returns.
 -- Assumes nothing.
-use mathlib.Core.Path.{_≡_, refl, sym, _∙_}
+use mathlib.Core.Path.{_≡_, refl, sym}
 use mathlib.Core.Logic.{inl, inr}
-use mathlib.Core.Bool.{Bool, true, false}
+use mathlib.Core.Bool.{Bool, true}
 use Prim.Native.Nat.{ℕ, zero, suc, _+_, _-_, _≤_, _<_}
 use native.Mathlib.Nat.{eq-zero-or-pos}
 use native.Mathlib.Decide.{decLe}
 use native.Mathlib.Omega.{arith}
 use lib.Dec.{T}
-use Rattle.below.specs.Below.{_==_, _<?_, isnt, anyBelow, endBelow, firstBelow}
+use Rattle.below.specs.Below.{_<?_, isnt, endBelow, firstBelow}
 use Rattle.records.specs.Record.{isCall}
-use Rattle.records.specs.Rules.{gapIn}
 use Rattle.records.specs.Writing.{callsEnd, callsStart, callsSpan}
 use Rattle.below.proofs.BelowLaws.{if-true, if-false, firstBelow-at, firstBelow-least}
-use Rattle.below.proofs.SearchLaws.{NoneBelow, true-T, false-T, any-hit, any-none, ==-true}
-use Rattle.records.proofs.ExtentLaws.{calls, endBelow-le, endBelow-at, endBelow-past, start-none, start-some, extent-of, gap-within}
+use Rattle.below.proofs.SearchLaws.{NoneBelow, true-T, false-T}
+use Rattle.records.proofs.ExtentLaws.{calls, endBelow-le, endBelow-at, endBelow-past, start-none, start-some, extent-of}
 
 suc-sub : (c : ℕ) → suc c - 1 ≡ c
 suc-sub c = omega arith
@@ -46,22 +45,9 @@ start-miss n row c h t = elim (eq-zero-or-pos (endBelow n (calls row))) [
 abbrev pub unknown : (ℕ → ℕ) → ℕ → Bool
 unknown row c = 2 <? row c
 
--- the holes from a column on
-abbrev pub holes : (ℕ → ℕ) → ℕ → ℕ → Bool
-holes row start k = row (start + k) == 0
-
-module _ (n : ℕ) (row : ℕ → ℕ) (start span : ℕ) (e : start ≡ callsStart n row) (d : span ≡ callsSpan n row) where
-  gap-is : gapIn n row ≡ anyBelow span (holes row start)
-  gap-is = rw (e, d) (gap-within n row _ _ (extent-of n row))
-
-  pub gap-hit : (k : ℕ) → k < span → row (start + k) ≡ 0 → true ≡ gapIn n row
-  gap-hit k h z = sym (gap-is ∙ any-hit span (holes row start) k h (==-true _ _ z))
-
-  pub gap-miss : (k : ℕ) → span ≤ k → NoneBelow k (holes row start) → false ≡ gapIn n row
-  gap-miss k h t = sym (gap-is ∙ any-none span (holes row start) k h t)
-
-  pub span-fits : start + span ≤ n
-  span-fits = let w = extent-of n row .fits in omega arith
+-- the calls lie within the row
+pub span-fits : (n : ℕ) (row : ℕ → ℕ) (start span : ℕ) → start ≡ callsStart n row → span ≡ callsSpan n row → start + span ≤ n
+span-fits n row start span e d = let w = extent-of n row .fits in omega arith
 
 -- ---- from the last column down
 

@@ -7,4 +7,3 @@ pub use rows::any_unknown;
 pub use rows::calls_end;
 pub use rows::calls_span;
 pub use rows::calls_start;
-pub use rows::is_gapped;

@@ -1,9 +1,8 @@
-// What a row of cells says: where its calls start and end, and whether it has a gap or a code without a meaning.
+// What a row of cells says: where its calls start and end, and whether it has a code without a meaning.
 ghost use mathlib.Core.Path.{_≡_};
 ghost use lib.ListN.{length};
 ghost use Rattle.below.specs.Below.{_<?_, anyBelow};
 ghost use Rattle.records.specs.Record.{isCall};
-ghost use Rattle.records.specs.Rules.{gapIn};
 ghost use Rattle.records.specs.Writing.{callsEnd, callsStart, callsSpan, codesOf};
 use records::byte;
 use records::is_call;
@@ -60,22 +59,6 @@ pub fn any_unknown(row: &[u8]) -> bool
             return true;
         }
         c += 1;
-    }
-    false
-}
-
-// Whether a row has a hole between two calls.
-pub fn is_gapped(row: &[u8]) -> bool
-    ensures { λ r. ⌜ r ≡ gapIn (length (now (row .entry))) (codesOf (now (row .entry))) ⌝ }
-{
-    let start = calls_start(row);
-    let span = calls_span(row);
-    let mut k = 0;
-    while k < span {
-        if byte(row, start + k) == 0 {
-            return true;
-        }
-        k += 1;
     }
     false
 }

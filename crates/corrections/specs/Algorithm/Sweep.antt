@@ -11,13 +11,14 @@ use Rattle.conflicts.specs.Corrections.{columnCost}
 use Rattle.events.specs.Algorithm.Events.{Event}
 use Rattle.events.specs.Algorithm.Weights.{sideWeight, columnWeight}
 use Rattle.events.specs.Algorithm.Slots.{HoldsEvents, gathered}
-use Rattle.slots.specs.Algorithm.Columns.{Shallow, covers}
+use Rattle.conflicts.specs.Served.{NoneDeep}
+use Rattle.slots.specs.Algorithm.Columns.{covers}
 use Rattle.slots.specs.Algorithm.Spans.{Spanned, Slotted}
 
 -- a matrix of which at most 8 fragments cover a column, with its spans and slots
 pub record Ready (m n : ℕ) (cells starts ends slots : List ℕ) : Type 0 where
   pub matrix : Matrix m n cells
-  pub shallow : Shallow (matrixGrid m n cells)
+  pub shallow : NoneDeep (matrixGrid m n cells)
   pub spanned : Spanned (matrixGrid m n cells) starts ends
   pub slotted : Slotted (matrixGrid m n cells) slots
 

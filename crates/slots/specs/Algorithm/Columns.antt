@@ -1,11 +1,11 @@
--- The fragments of a table as stretches of columns, and what a column costs at given sides.
+-- The fragments of a table as stretches of columns, and rule 12's column.
 -- Assumes nothing.
-use Prim.Native.Nat.{ℕ, _≤_, _<_}
+use Prim.Native.Nat.{ℕ}
 use mathlib.Core.Bool.{Bool}
-use Rattle.below.specs.Below.{countBelow, firstBelow, _<?_, _≤?_, _and_}
+use Rattle.below.specs.Below.{firstBelow, _<?_, _≤?_, _and_}
 use Rattle.records.specs.Record.{isCall}
 use Rattle.records.specs.Writing.{callsEnd}
-use Rattle.conflicts.specs.Grid.{Grid}
+use Rattle.conflicts.specs.Grid.{Grid, coverage}
 
 -- "the first called column" of fragment i, and n where it calls none
 unfoldable pub firstColumn : Grid → ℕ → ℕ
@@ -19,10 +19,6 @@ endColumn g i = callsEnd (g .n) (g .cell i)
 unfoldable pub covers : Grid → ℕ → ℕ → Bool
 covers g c i = i <? g .m and (firstColumn g i ≤? c and c <? endColumn g i)
 
--- how many fragments cover a column
-unfoldable pub coverage : Grid → ℕ → ℕ
-coverage g c = countBelow (g .m) (covers g c)
-
--- at most 8 fragments cover any column
-pub record Shallow (g : Grid) : Type 0 where
-  pub shallow : (c : ℕ) → c < g .n → coverage g c ≤ 8
+-- 12, "too deep": the lowest column that more than 8 fragments cover, and n where there is none
+unfoldable pub firstDeep : Grid → ℕ
+firstDeep g = firstBelow (g .n) (λ c. 8 <? coverage g c)

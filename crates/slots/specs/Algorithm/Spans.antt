@@ -5,7 +5,7 @@ use mathlib.Core.Bool.{Bool}
 use mathlib.Core.List.{List}
 use Prim.Native.Nat.{ℕ, _+_, _*_, _≤_, _<_}
 use lib.ListN.{getD, length}
-use Rattle.below.specs.Below.{nth, anyBelow, firstBelow, isnt, _==_, _<?_, _≤?_, _and_}
+use Rattle.below.specs.Below.{nth, anyBelow, countBelow, firstBelow, isnt, _==_, _<?_, _≤?_, _and_}
 use Rattle.conflicts.specs.Grid.{Grid}
 use Rattle.events.specs.Algorithm.Slots.{Given, Apart}
 use Rattle.slots.specs.Algorithm.Columns.{firstColumn, endColumn, covers}
@@ -16,6 +16,10 @@ pub record Spanned (g : Grid) (starts ends : List ℕ) : Type 0 where
   pub ends-size : length ends ≡ 128
   pub begins : (f : ℕ) → f < g .m → getD starts f 0 ≡ firstColumn g f
   pub stops : (f : ℕ) → f < g .m → getD ends f 0 ≡ endColumn g f
+
+-- how many of the first m fragments, by where they start and end, cover column c
+unfoldable pub coveredBy : ℕ → List ℕ → List ℕ → ℕ → ℕ
+coveredBy m starts ends c = countBelow m (λ i. nth starts i ≤? c and c <? nth ends i)
 
 -- a fragment from s to e at position x, with slot k: it covers column c, entered before the turn, and its slot is b
 unfoldable pub hitSlot : ℕ → ℕ → ℕ → ℕ → ℕ → ℕ → ℕ → Bool

@@ -14,7 +14,7 @@ least-cost-sides-requires c κs =
     let sized = s .pre .0 .0 in
     let kept = s .pre .0 .1 in
     let same = s .pre .1 .0 .0 in
-    (table-matrix sized kept same, table-shallow sized kept same (s .pre .1 .1 .0), s .pre .1 .1 .1 .0 .0)
+    (table-matrix sized same, table-shallow sized kept same (s .pre .1 .1 .0), s .pre .1 .1 .1 .0 .0)
 
 correct-cells-requires : tie.Need-correct-cells-requires
 correct-cells-requires c κs =
@@ -23,7 +23,7 @@ correct-cells-requires c κs =
     let sized = s .pre .0 .0 in
     let kept = s .pre .0 .1 in
     let same = s .pre .1 .0 .0 in
-    (table-matrix sized kept same, table-sides sized kept same (least-cost-sides .ensures .0), s .pre .1 .1 .1 .0 .1)
+    (table-matrix sized same, table-sides sized kept same (least-cost-sides .ensures .0), s .pre .1 .1 .1 .0 .1)
 
 fill-answer-requires : tie.Need-fill-answer-requires
 fill-answer-requires c κs =

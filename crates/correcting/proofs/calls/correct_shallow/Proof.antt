@@ -9,7 +9,7 @@ use Rattle.correcting.proofs.calls.correct_shallow.Statement.{statement
 use Rattle.correcting.proofs.calls.correct_shallow.Tie as tie
 
 first-deep-requires : tie.Need-first-deep-requires
-first-deep-requires c κs = let s = c .before .before .before .before .before in let e = s .pre .0 .kept in table-matrix (correction-sized _ _ _ _ _ _ e) (correction-kept _ _ _ _ _ _ e) (s .pre .1)
+first-deep-requires c κs = let s = c .before .before .before .before .before in let e = s .pre .0 .kept in table-matrix (correction-sized _ _ _ _ _ _ e) (s .pre .1)
 
 returns : tie.Need-returns
 returns c =

@@ -29,32 +29,22 @@ part-row-end : tie.Need-part-row-end
 part-row-end c = row-in c
 
 returns : tie.Need-returns
-returns c = sym (tested-fragment _ _ _ refl (row-in (c .before .before .before)) _ _ (c .before .any-unknown .ensures) refl refl refl ∙ rule-broken _ _ _ (c .if1 .taken))
+returns c = sym (tested-fragment _ _ _ refl (row-in (c .before .before .before)) _ _ (c .before .any-unknown .ensures) refl refl ∙ rule-broken _ _ _ (c .if1 .taken))
 
 returns-2 : tie.Need-returns-2
-returns-2 c = sym (tested-fragment _ _ _ refl (row-in (c .before .before .before .before .before)) _ _ (c .before .before .before .any-unknown .ensures) (c .before .calls-span .ensures) refl refl ∙ rule-kept _ _ _ (c .before .before .if1 .left) ∙ rule-broken _ _ _ (<?-true _ _ (c .if2 .taken)))
+returns-2 c = sym (tested-fragment _ _ _ refl (row-in (c .before .before .before .before .before)) _ _ (c .before .before .before .any-unknown .ensures) (c .before .calls-span .ensures) refl ∙ rule-kept _ _ _ (c .before .before .if1 .left) ∙ rule-broken _ _ _ (<?-true _ _ (c .if2 .taken)))
 
 returns-3 : tie.Need-returns-3
 returns-3 c =
     let if1 = c .before .before .before .before .if1 in
     let any-unknown = c .before .before .before .before .before .any-unknown in
-    sym (tested-fragment _ _ _ refl (row-in (c .before .before .before .before .before .before .before)) _ _ (any-unknown .ensures) (c .before .before .before .calls-span .ensures) (c .before .is-gapped .ensures) refl ∙ rule-kept _ _ _ (if1 .left) ∙ rule-kept _ _ _ (<?-false _ _ (c .before .before .if2 .left)) ∙ rule-broken _ _ _ (c .if3 .taken))
+    sym (tested-fragment _ _ _ refl (row-in (c .before .before .before .before .before .before .before)) _ _ (any-unknown .ensures) (c .before .before .before .calls-span .ensures) (c .before .tag-before .ensures) ∙ rule-kept _ _ _ (if1 .left) ∙ rule-kept _ _ _ (<?-false _ _ (c .before .before .if2 .left)) ∙ rule-broken _ _ _ (c .if3 .taken))
 
 returns-4 : tie.Need-returns-4
 returns-4 c =
-    let if2 = c .before .before .before .before .if2 in
-    let calls-span = c .before .before .before .before .before .calls-span in
-    let if1 = c .before .before .before .before .before .before .if1 in
-    let any-unknown = c .before .before .before .before .before .before .before .any-unknown in
-    sym (tested-fragment _ _ _ refl (row-in (c .before .before .before .before .before .before .before .before .before)) _ _ (any-unknown .ensures) (calls-span .ensures) (c .before .before .before .is-gapped .ensures) (c .before .tag-before .ensures) ∙ rule-kept _ _ _ (if1 .left) ∙ rule-kept _ _ _ (<?-false _ _ (if2 .left)) ∙ rule-kept _ _ _ (c .before .before .if3 .left) ∙ rule-broken _ _ _ (c .if4 .taken))
-
-returns-5 : tie.Need-returns-5
-returns-5 c =
-    let if2 = c .before .before .before .before .if2 in
-    let calls-span = c .before .before .before .before .before .calls-span in
-    let if1 = c .before .before .before .before .before .before .if1 in
-    let any-unknown = c .before .before .before .before .before .before .before .any-unknown in
-    sym (tested-fragment _ _ _ refl (row-in (c .before .before .before .before .before .before .before .before .before)) _ _ (any-unknown .ensures) (calls-span .ensures) (c .before .before .before .is-gapped .ensures) (c .before .tag-before .ensures) ∙ rule-kept _ _ _ (if1 .left) ∙ rule-kept _ _ _ (<?-false _ _ (if2 .left)) ∙ rule-kept _ _ _ (c .before .before .if3 .left) ∙ rule-kept _ _ _ (c .if4 .left) ∙ decide-none _)
+    let if1 = c .before .before .before .before .if1 in
+    let any-unknown = c .before .before .before .before .before .any-unknown in
+    sym (tested-fragment _ _ _ refl (row-in (c .before .before .before .before .before .before .before)) _ _ (any-unknown .ensures) (c .before .before .before .calls-span .ensures) (c .before .tag-before .ensures) ∙ rule-kept _ _ _ (if1 .left) ∙ rule-kept _ _ _ (<?-false _ _ (c .before .before .if2 .left)) ∙ rule-kept _ _ _ (c .if3 .left) ∙ decide-none _)
 
 pub fragment-fault-spec : {M : Type 1} → statement M
 fragment-fault-spec =
@@ -71,6 +61,4 @@ fragment-fault-spec =
     returns-2
     (λ c κs. search needs)
     returns-3
-    (λ c κs. search needs)
-    returns-4
-    returns-5)
+    returns-4)

@@ -6,11 +6,13 @@ use denote.Ref.{now}
 use Rattle.below.specs.Below.{anyBelow, _==_}
 use Rattle.records.specs.Record.{tagOf}
 use Rattle.records.specs.Table.{recordAt}
-use Rattle.records.specs.Rules.{gapped, tagTwice, rule, recordRules, decide}
+use Rattle.records.specs.Rules.{gapped, tagTwice, rule, spanRules, decide}
+use Rattle.records.specs.Algorithm.Kept.{rulesOf}
 use Rattle.records.specs.Outcome.{accepted}
 use Rattle.records.proofs.PartLaws.{part-record}
 use Rattle.records.proofs.TableLaws.{length-recordAt}
-use Rattle.records.proofs.FaultLaws.{frame-narrow, worst-unknown, worst-gapped}
+use Rattle.records.proofs.RuleLaws.{rule-broken, rule-kept, decide-none}
+use Rattle.records.proofs.FaultLaws.{switched, frame-narrow, worst-unknown, worst-gapped}
 use Rattle.below.proofs.SearchLaws.{==-true, ==-false}
 use native.Mathlib.Omega.{arith}
 use borrow.Author.Needs.{needs}
@@ -21,53 +23,73 @@ use Rattle.records.proofs.rules.record_fault.Tie as tie
 part-read : (c : tie.After-record-at) → now (c .record-at .result) ≡ recordAt (c .before .before .args .table .now) (c .before .before .args .i)
 part-read c = part-record _ (c .before .before .args .i) _ (c .record-at .ensures) (c .before .before .pre)
 
-twice-is : (c : tie.After-any-tag) → tagTwice (c .before .before .before .before .before .before .before .before .before .before .before .before .before .before .args .table .now) (c .before .before .before .before .before .before .before .before .before .before .before .before .before .before .args .i) ≡ c .any-tag .result
-unfolding tagTwice
-twice-is c =
-    sym (c .any-tag .ensures ∙ ap (λ (t : ℕ). anyBelow (c .before .before .before .before .before .before .before .before .before .before .before .before .before .before .args .i) (λ h. tagOf (recordAt (c .before .before .before .before .before .before .before .before .before .before .before .before .before .before .args .table .now) h) == t)) (c .before .tag .ensures ∙ ap tagOf (part-read (c .before .before .before .before .before .before .before .before .before .before .before .before))))
-
 worst-code-requires : tie.Need-worst-code-requires
 worst-code-requires c κs =
+    let part = c .before .before .before .before .before in
     let e = c .span .ensures in
     let h = frame-narrow _ _ (sym (c .before .before .before .before .out-of-frame .ensures) ∙ c .before .before .before .if1 .left) in
-    (ap length (part-read (c .before .before .before .before .before)) ∙ length-recordAt _ (c .before .before .before .before .before .before .before .args .i) (c .before .before .before .before .before .before .before .pre), omega arith)
+    (ap length (part-read part) ∙ length-recordAt _ (part .before .before .args .i) (part .before .before .pre), omega arith)
 
 returns : tie.Need-returns
-unfolding recordRules decide
-returns c = rw (← part-read (c .before .before), ← c .before .out-of-frame .ensures, c .if1 .taken)
+unfolding spanRules decide
+returns c =
+    let part = c .before .before in
+    let args = part .before .before .args in
+    rw (switched (args .gapless) (args .n) (args .table .now) (args .i) (accepted 0), ← part-read part, ← c .before .out-of-frame .ensures, c .if1 .taken)
 
 returns-2 : tie.Need-returns-2
-unfolding recordRules decide
-returns-2 c = rw (← part-read (c .before .before .before .before), ← c .before .before .before .out-of-frame .ensures, c .before .before .if1 .left, ← c .before .stray-bits .ensures, c .if2 .taken)
+unfolding spanRules decide
+returns-2 c =
+    let part = c .before .before .before .before in
+    let args = part .before .before .args in
+    rw (switched (args .gapless) (args .n) (args .table .now) (args .i) (accepted 0), ← part-read part, ← c .before .before .before .out-of-frame .ensures, c .before .before .if1 .left, ← c .before .stray-bits .ensures, c .if2 .taken)
 
 returns-3 : tie.Need-returns-3
-unfolding recordRules decide
-returns-3 c = rw (← part-read (c .before .before .before .before .before .before .before), ← c .before .before .before .before .before .before .out-of-frame .ensures, c .before .before .before .before .before .if1 .left, ← c .before .before .before .before .stray-bits .ensures, c .before .before .before .if2 .left, worst-unknown _ _ _ (c .before .before .span .ensures) (c .before .worst-code .ensures), ==-true _ _ (c .if3 .taken))
+unfolding spanRules decide
+returns-3 c =
+    let part = c .before .before .before .before .before .before .before in
+    let args = part .before .before .args in
+    rw (switched (args .gapless) (args .n) (args .table .now) (args .i) (accepted 0), ← part-read part, ← c .before .before .before .before .before .before .out-of-frame .ensures, c .before .before .before .before .before .if1 .left, ← c .before .before .before .before .stray-bits .ensures, c .before .before .before .if2 .left, worst-unknown _ _ _ (c .before .before .span .ensures) (c .before .worst-code .ensures), ==-true _ _ (c .if3 .taken))
 
 returns-4 : tie.Need-returns-4
-unfolding recordRules decide
-returns-4 c = rw (← part-read (c .before .before .before .before .before .before .before .before .before), ← c .before .before .before .before .before .before .before .before .out-of-frame .ensures, c .before .before .before .before .before .before .before .if1 .left, ← c .before .before .before .before .before .before .stray-bits .ensures, c .before .before .before .before .before .if2 .left, worst-unknown _ _ _ (c .before .before .before .before .span .ensures) (c .before .before .before .worst-code .ensures), ==-false _ _ (c .before .before .if3 .left), ← c .before .open-end .ensures, c .if4 .taken)
+unfolding spanRules decide
+returns-4 c =
+    let part = c .before .before .before .before .before .before .before .before .before in
+    let args = part .before .before .args in
+    rw (switched (args .gapless) (args .n) (args .table .now) (args .i) (accepted 0), ← part-read part, ← c .before .before .before .before .before .before .before .before .out-of-frame .ensures, c .before .before .before .before .before .before .before .if1 .left, ← c .before .before .before .before .before .before .stray-bits .ensures, c .before .before .before .before .before .if2 .left, worst-unknown _ _ _ (c .before .before .before .before .span .ensures) (c .before .before .before .worst-code .ensures), ==-false _ _ (c .before .before .if3 .left), ← c .before .open-end .ensures, c .if4 .taken)
 
 -- 6 and 7 are kept, and what the worst code says of 8
 gapped-is : (c : tie.Else4) → gapped (now (c .before .before .before .before .before .before .before .before .before .record-at .result)) ≡ (c .before .before .before .worst-code .result == 0)
-gapped-is c = worst-gapped _ _ _ (c .before .before .before .before .span .ensures) (c .before .before .before .worst-code .ensures) (worst-unknown _ _ _ (c .before .before .before .before .span .ensures) (c .before .before .before .worst-code .ensures) ∙ ==-false _ _ (c .before .before .if3 .left)) (sym (c .before .open-end .ensures) ∙ c .if4 .left)
+gapped-is c =
+    let read = c .before .before .before in
+    let unknown = worst-unknown _ _ _ (read .before .span .ensures) (read .worst-code .ensures) in
+    worst-gapped _ _ _ (read .before .span .ensures) (read .worst-code .ensures) (unknown ∙ ==-false _ _ (c .before .before .if3 .left)) (sym (c .before .open-end .ensures) ∙ c .if4 .left)
+
+-- 4 to 7 are kept where 8 is tested
+past-7 : (c : tie.After-hole-refused)
+    → let args = c .before .before .before .before .before .before .before .before .before .before .before .before .args in
+    decide (rulesOf (args .gapless) (args .n) (args .table .now) (args .i)) (accepted 0) ≡ decide (rule 8 (args .i) (c .hole-refused .result) ∷ rule 9 (args .i) (tagTwice (args .table .now) (args .i)) ∷ []) (accepted 0)
+unfolding spanRules decide
+past-7 c =
+    let part = c .before .before .before .before .before .before .before .before .before .before in
+    let args = part .before .before .args in
+    rw (switched (args .gapless) (args .n) (args .table .now) (args .i) (accepted 0), ← part-read part, ← c .before .before .before .before .before .before .before .before .before .out-of-frame .ensures, c .before .before .before .before .before .before .before .before .if1 .left, ← c .before .before .before .before .before .before .before .stray-bits .ensures, c .before .before .before .before .before .before .if2 .left, worst-unknown _ _ _ (c .before .before .before .before .before .span .ensures) (c .before .before .before .before .worst-code .ensures), ==-false _ _ (c .before .before .before .if3 .left), ← c .before .before .open-end .ensures, c .before .if4 .left, gapped-is (c .before), ← c .hole-refused .ensures)
 
 returns-5 : tie.Need-returns-5
-unfolding recordRules decide
-returns-5 c = rw (← part-read (c .before .before .before .before .before .before .before .before .before .before), ← c .before .before .before .before .before .before .before .before .before .out-of-frame .ensures, c .before .before .before .before .before .before .before .before .if1 .left, ← c .before .before .before .before .before .before .before .stray-bits .ensures, c .before .before .before .before .before .before .if2 .left, worst-unknown _ _ _ (c .before .before .before .before .before .span .ensures) (c .before .before .before .before .worst-code .ensures), ==-false _ _ (c .before .before .before .if3 .left), ← c .before .before .open-end .ensures, c .before .if4 .left, gapped-is (c .before), ==-true _ _ (c .if5 .taken))
+returns-5 c = sym (past-7 (c .before) ∙ rule-broken _ _ _ (c .if5 .taken))
 
--- the rules from 4 to 8 are kept where 9 is tested
-past-8 : (c : tie.Else5) → decide (recordRules (c .before .before .before .before .before .before .before .before .before .before .before .before .args .n) (c .before .before .before .before .before .before .before .before .before .before .before .before .args .table .now) (c .before .before .before .before .before .before .before .before .before .before .before .before .args .i)) (accepted 0) ≡ decide (rule 9 (c .before .before .before .before .before .before .before .before .before .before .before .before .args .i) (tagTwice (c .before .before .before .before .before .before .before .before .before .before .before .before .args .table .now) (c .before .before .before .before .before .before .before .before .before .before .before .before .args .i)) ∷ []) (accepted 0)
-unfolding recordRules decide
-past-8 c = rw (← part-read (c .before .before .before .before .before .before .before .before .before .before), ← c .before .before .before .before .before .before .before .before .before .out-of-frame .ensures, c .before .before .before .before .before .before .before .before .if1 .left, ← c .before .before .before .before .before .before .before .stray-bits .ensures, c .before .before .before .before .before .before .if2 .left, worst-unknown _ _ _ (c .before .before .before .before .before .span .ensures) (c .before .before .before .before .worst-code .ensures), ==-false _ _ (c .before .before .before .if3 .left), ← c .before .before .open-end .ensures, c .before .if4 .left, gapped-is (c .before), ==-false _ _ (c .if5 .left))
+twice-is : (c : tie.After-any-tag) → let args = c .before .before .before .before .before .before .before .before .before .before .before .before .before .before .before .args in tagTwice (args .table .now) (args .i) ≡ c .any-tag .result
+unfolding tagTwice
+twice-is c =
+    let part = c .before .before .before .before .before .before .before .before .before .before .before .before .before in
+    let args = part .before .before .args in
+    sym (c .any-tag .ensures ∙ ap (λ (t : ℕ). anyBelow (args .i) (λ h. tagOf (recordAt (args .table .now) h) == t)) (c .before .tag .ensures ∙ ap tagOf (part-read part)))
 
 returns-6 : tie.Need-returns-6
-unfolding decide
-returns-6 c = sym (past-8 (c .before .before .before) ∙ rw (twice-is (c .before) ∙ c .if6 .taken))
+returns-6 c = sym (past-7 (c .before .before .before .before) ∙ rule-kept _ _ _ (c .before .before .before .if5 .left) ∙ rule-broken _ _ _ (twice-is (c .before) ∙ c .if6 .taken))
 
 returns-7 : tie.Need-returns-7
-unfolding decide
-returns-7 c = sym (past-8 (c .before .before .before) ∙ rw (twice-is (c .before) ∙ c .if6 .left))
+returns-7 c = sym (past-7 (c .before .before .before .before) ∙ rule-kept _ _ _ (c .before .before .before .if5 .left) ∙ rule-kept _ _ _ (twice-is (c .before) ∙ c .if6 .left) ∙ decide-none _)
 
 pub record-fault-spec : {M : Type 1} → statement M
 record-fault-spec =
@@ -84,6 +106,7 @@ record-fault-spec =
     returns-3
     (λ c κs. search needs)
     returns-4
+    (λ c κs. search needs)
     returns-5
     (λ c κs. search needs)
     (λ c κs. search needs)

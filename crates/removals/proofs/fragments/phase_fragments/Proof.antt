@@ -15,13 +15,13 @@ use Rattle.removals.proofs.fragments.phase_fragments.Statement.{stateme
 use Rattle.removals.proofs.fragments.phase_fragments.Tie as tie
 
 fill-masks-requires : tie.Need-fill-masks-requires
-fill-masks-requires c κs = let p = c .before .before .before .before .before .before .before .pre in (table-matrix (p .0) (p .1 .0) (p .1 .1 .0) .size, sized-n (p .0), search needs)
+fill-masks-requires c κs = let p = c .before .before .before .before .before .before .before .pre in (table-matrix (p .0) (p .1 .1 .0) .size, sized-n (p .0), search needs)
 
 fragment-keep-marks-requires : tie.Need-fragment-keep-marks-requires
 fragment-keep-marks-requires c κs =
     let p = c .before .before .before .before .before .before .before .before .before .before .before .before .pre in
     let h = p .1 .1 .1 .0 in
-    (table-matrix (p .0) (p .1 .0) (p .1 .1 .0), c .before .before .before .before .fill-masks .ensures, table-gapless (p .0) (p .1 .0) (p .1 .1 .0), omega arith, p .1 .1 .1 .1 .0)
+    (table-matrix (p .0) (p .1 .1 .0), c .before .before .before .before .fill-masks .ensures, table-gapless (p .0) (p .1 .1 .0) (p .1 .0), omega arith, p .1 .1 .1 .1 .0)
 
 part-phase-end : tie.Need-part-phase-end
 part-phase-end c =
@@ -38,7 +38,7 @@ phase-requires c κs =
       record {
         few = sized-m (p .0);
         narrow = sized-n (p .0);
-        cells-long = table-matrix (p .0) (p .1 .0) (p .1 .1 .0) .size;
+        cells-long = table-matrix (p .0) (p .1 .1 .0) .size;
         columns = ap length (all-kept-part n _ (sized-n (p .0)) (c .before .before .before .before .before .all-kept .ensures)) ∙ all-length n;
         fragments = marks .kept .1 .1 .1 .1 .1 .0 ∙ p .1 .1 .1 .1 .0;
       },
@@ -52,8 +52,8 @@ returns c =
     let kept = c .before .before .before .before .before .before .before .before .all-kept .ensures in
     let start = c .before .before .before .before .before .before .before .before .before .before .before .before .before .before .before .before .before .before .before .before .before .before .before .before .before .before in
     let p = start .pre in (
-      e .1 ∙ ap zeros (table-fragments (p .0) (p .1 .0) (p .1 .1 .0)),
-      (e .2, table-fragment-answer (p .0) (p .1 .0) (p .1 .1 .0) (all-kept-part (start .args .n) _ (sized-n (p .0)) kept) (e .0) (c .before .before .phase .ensures)),
+      e .1 ∙ ap zeros (table-fragments (p .0) (p .1 .1 .0)),
+      (e .2, table-fragment-answer (p .0) (p .1 .1 .0) (all-kept-part (start .args .n) _ (sized-n (p .0)) kept) (e .0) (c .before .before .phase .ensures)),
     )
 
 pub phase-fragments-spec : {M : Type 1} → statement M

@@ -11,10 +11,10 @@ use Rattle.removals.proofs.snps.phase_kept.Tie as tie
 
 snp-keep-marks-requires : tie.Need-snp-keep-marks-requires
 snp-keep-marks-requires c κs =
-    let p = c .before .before .before .before .before .before .before .pre in (table-matrix (p .0) (p .1 .0) (p .1 .1 .0), table-gapless (p .0) (p .1 .0) (p .1 .1 .0), p .1 .1 .1 .1 .0)
+    let p = c .before .before .before .before .before .before .before .pre in (table-matrix (p .0) (p .1 .1 .0), table-gapless (p .0) (p .1 .1 .0) (p .1 .0), p .1 .1 .1 .1 .0)
 
 fill-masks-requires : tie.Need-fill-masks-requires
-fill-masks-requires c κs = let p = c .before .before .before .before .before .before .before .before .before .before .before .pre in (table-matrix (p .0) (p .1 .0) (p .1 .1 .0) .size, sized-n (p .0), search needs)
+fill-masks-requires c κs = let p = c .before .before .before .before .before .before .before .before .before .before .before .pre in (table-matrix (p .0) (p .1 .1 .0) .size, sized-n (p .0), search needs)
 
 phase-requires : tie.Need-phase-requires
 phase-requires c κs =
@@ -24,7 +24,7 @@ phase-requires c κs =
       record {
         few = sized-m (p .0);
         narrow = sized-n (p .0);
-        cells-long = table-matrix (p .0) (p .1 .0) (p .1 .1 .0) .size;
+        cells-long = table-matrix (p .0) (p .1 .1 .0) .size;
         columns = snp-keep-marks .kept .1 .1 .1 .0 ∙ p .1 .1 .1 .1 .0;
         fragments = ap length (p .1 .1 .1 .0) ∙ all-length (start .args .m);
       },
@@ -37,7 +37,7 @@ returns c =
     let snp-keep-marks = c .before .before .before .before .before .before .before .before .before .before .before .snp-keep-marks in
     let p = c .before .before .before .before .before .before .before .before .before .before .before .before .before .before .before .before .before .before .before .pre in
     let e = snp-keep-marks .ensures in
-    (e .1 ∙ ap zeros (table-marks (p .0) (p .1 .0) (p .1 .1 .0)), table-answer (p .0) (p .1 .0) (p .1 .1 .0) (e .0) (p .1 .1 .1 .0) (c .before .before .phase .ensures))
+    (e .1 ∙ ap zeros (table-marks (p .0) (p .1 .1 .0)), table-answer (p .0) (p .1 .1 .0) (e .0) (p .1 .1 .1 .0) (c .before .before .phase .ensures))
 
 pub phase-kept-spec : {M : Type 1} → statement M
 phase-kept-spec =

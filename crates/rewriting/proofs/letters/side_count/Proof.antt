@@ -5,8 +5,7 @@ use Prim.Native.Nat.{ℕ, _+_, _-_, _≤_}
 use native.Mathlib.Omega.{arith}
 use borrow.Author.Needs.{needs}
 use Rattle.below.specs.Below.{bit, countBelow}
-use Rattle.below.proofs.BelowLaws.{count-next, count-bound}
-use Rattle.rewriting.proofs.DepthLaws.{count-none}
+use Rattle.below.proofs.BelowLaws.{count-none, count-next, count-bound}
 use Rattle.rewriting.proofs.LetterLaws.{sideHas, side-count-is}
 use Rattle.rewriting.proofs.letters.side_count.Statement.{statement}
 use Rattle.rewriting.proofs.letters.side_count.Tie as tie

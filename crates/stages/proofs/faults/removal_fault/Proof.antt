@@ -11,7 +11,7 @@ returns : tie.Need-returns
 returns c = sym (removal-lent _ _ _ _ _ _ (sym (c .before .before .before .lent-fault .ensures) ∙ ap outcomeOf (c .before .lent .given .1)))
 
 returns-2 : tie.Need-returns-2
-returns-2 c = c .records-fault .ensures ∙ sym (removal-records _ _ _ _ _ (sym (c .before .before .before .lent-fault .ensures) ∙ ap outcomeOf (c .before .enum-told .given .1)))
+returns-2 c = c .gapless-fault .ensures ∙ sym (removal-records _ _ _ _ _ (sym (c .before .before .before .lent-fault .ensures) ∙ ap outcomeOf (c .before .enum-told .given .1)))
 
 pub removal-fault-spec : {M : Type 1} → statement M
 removal-fault-spec =
