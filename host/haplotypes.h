@@ -8,8 +8,9 @@
  *   bytes 4-5   start, the first called column      bytes 8-31   96 cells of two bits: 0 a hole, 1 A, 2 B
  *   byte  6     span, 0 to 96
  *
- * Cell i stands in byte 8 + i / 4, at the two bits from bit 2 * (i % 4) on, and belongs to column start + i. All cells of the span are calls, and
- * those after it 0. A fragment without calls has span 0 and start 0.
+ * Cell i stands in byte 8 + i / 4, at the two bits from bit 2 * (i % 4) on, and belongs to column start + i. The span's first and last cells are
+ * calls, and those after it 0. Two mates are one fragment, with holes between them, which all services but S and F take. A fragment without calls
+ * has span 0 and start 0.
  *
  * Answers. An answer has 3n + 2m bytes, in five sections:
  *
@@ -37,10 +38,10 @@
  *
  * Refusals. The first rule that is broken decides:
  *
- *   unpack, check, conflict_counts   3, 1, 2, 11; then the records from 0 on, each by 4, 5, 6, 7, 8, 9
- *   S, F                             3, 1, 2, 10, 11; then the records as above
- *   C                                as S and F; then 12
- *   pack                             3, 1, 2, 11; then the fragments from 0 on, each by 6, 4, 8, 9
+ *   unpack, check, conflict_counts   3, 1, 2, 11; then the records from 0 on, each by 4, 5, 6, 7, 9
+ *   S, F                             3, 1, 2, 10, 11; then the records from 0 on, each by 4, 5, 6, 7, 8, 9
+ *   C                                3, 1, 2, 10, 11; then the records as for check; then 12
+ *   pack                             3, 1, 2, 11; then the fragments from 0 on, each by 6, 4, 9
  *   find                             refuses nothing
  */
 #ifndef PIKONDAUR_HAPLOTYPES_H
@@ -80,11 +81,11 @@ enum {
     HAPLOTYPES_STRAY_BITS = 5,          /* byte 7, or a cell after the span, is not 0 */
     HAPLOTYPES_UNKNOWN_CALL = 6,        /* code 3 in the span; for pack, a cell over 2 */
     HAPLOTYPES_OPEN_END = 7,            /* the span's first or last cell is a hole */
-    HAPLOTYPES_GAPPED = 8,              /* a hole between two calls */
+    HAPLOTYPES_GAPPED = 8,              /* by S and F alone: a hole between two calls */
     HAPLOTYPES_TAG_TWICE = 9,           /* the tag of an earlier fragment */
     HAPLOTYPES_SHORT_WORK = 10,         /* work under 32768 numbers */
     HAPLOTYPES_WRONG_BUFFER = 11,       /* an output's length is not exact */
-    HAPLOTYPES_TOO_DEEP = 12            /* by C alone: over 8 calls in a column */
+    HAPLOTYPES_TOO_DEEP = 12            /* by C alone: over 8 fragments whose stretch from first to last call covers a column */
 };
 
 /* The bytes of stack that must be free below the caller's frame: what was measured on full tables, with some room. host/stack/test measures
@@ -142,18 +143,20 @@ HAPLOTYPES_SERVICE haplotypes_count haplotypes_conflict_counts(size_t n, const u
                                                                uint8_t *counts, size_t counts_length);
 
 /* S: the fewest columns to remove so that the rest is error-free. Returns their number, which is that of the keep marks 0.
- * Exact: answer_length is 3n + 2m, or the call is refused (11). Work has HAPLOTYPES_WORK numbers or more (10), and is all 0 afterwards. */
+ * Exact: answer_length is 3n + 2m, or the call is refused (11). Work has HAPLOTYPES_WORK numbers or more (10), and is all 0 afterwards.
+ * No fragment has a hole between two calls, or the call is refused (8). */
 HAPLOTYPES_SERVICE haplotypes_count haplotypes_least_snp_removal(size_t n, const uint8_t *table, size_t table_length,
                                                                  uint16_t *work, size_t work_length, uint8_t *answer, size_t answer_length);
 
 /* F: the fewest fragments to remove so that the rest is error-free. Returns their number, which is that of the sides 0.
- * Lengths and work as for S. Takes 304 KiB of stack. */
+ * Lengths, work and holes as for S. Takes 304 KiB of stack. */
 HAPLOTYPES_SERVICE haplotypes_count haplotypes_least_fragment_removal(size_t n, const uint8_t *table, size_t table_length,
                                                                       uint16_t *work, size_t work_length, uint8_t *answer, size_t answer_length);
 
 /* C: the fewest calls to correct, A to B or B to A, so that the table is error-free. Returns their number, which is that of the cells in which the
  * corrected table differs from the one given; no other bit differs.
- * Lengths and work as for S, and corrected_length is table_length (11). */
+ * Lengths and work as for S, and corrected_length is table_length (11). At most 8 fragments, each from its first to its last call, cover a column,
+ * or the call is refused (12). */
 HAPLOTYPES_SERVICE haplotypes_count haplotypes_least_corrections(size_t n, const uint8_t *table, size_t table_length,
                                                                  uint16_t *work, size_t work_length, uint8_t *answer, size_t answer_length,
                                                                  uint8_t *corrected, size_t corrected_length);

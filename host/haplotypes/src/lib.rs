@@ -5,7 +5,8 @@
 //! proved and what that rests on.
 //!
 //! A table is 32 bytes to a fragment: tag (4 bytes, little-endian), start (2), span (1), a byte that is 0, and 96 cells of two bits, four to a
-//! byte from the low bits on: 0 a hole, 1 A, 2 B. It has m fragments and n columns, each at most 128.
+//! byte from the low bits on: 0 a hole, 1 A, 2 B. It has m fragments and n columns, each at most 128. Two mates are one fragment, with holes
+//! between them, which all services but [`least_snp_removal`] and [`least_fragment_removal`] take.
 //!
 //! An answer is 3n + 2m bytes ([`answer_length`]): n keep marks, haplotypes 1 and 2 of n codes each (3 at a removed column), m sides (0 for a removed fragment),
 //! m blocks (the position of the block's first fragment, 255 for a removed one). A chain of kept fragments, each in conflict with the next on a kept
@@ -81,10 +82,10 @@ pub fn unpack(n: usize, table: &[u8], cells: &mut [u8], tags: &mut [u32]) -> Out
 /// use haplotypes::{pack, Outcome};
 ///
 /// let mut table = [9; 32];
-/// assert_eq!(pack(3, &[1, 0, 2], &[7], &mut table), Outcome::Refused(8, 0)); // a hole between two calls
+/// assert_eq!(pack(4, &[0, 1, 3, 2], &[7], &mut table), Outcome::Refused(6, 0)); // 3 is no call
 /// assert_eq!(table, [9; 32]);
-/// assert_eq!(pack(3, &[0, 1, 2], &[7], &mut table), Outcome::Accepted(1));
-/// assert_eq!(table[..9], [7, 0, 0, 0, 1, 0, 2, 0, 0b1001]);
+/// assert_eq!(pack(4, &[0, 1, 0, 2], &[7], &mut table), Outcome::Accepted(1)); // mates, and a hole between them
+/// assert_eq!(table[..9], [7, 0, 0, 0, 1, 0, 3, 0, 0b10_00_01]);
 /// ```
 pub fn pack(n: usize, cells: &[u8], tags: &[u32], table: &mut [u8]) -> Outcome {
     read(COUNT, unsafe {
@@ -119,6 +120,11 @@ pub fn find(tag: u32, table: &[u8]) -> &[u8] {
 /// let mut answer = [0; answer_length(1, 2)];
 /// assert_eq!(check(1, &table, &mut answer), Outcome::Accepted(0));
 /// assert_eq!(answer, [1, 1, 2, 1, 2, 0, 0]); // kept; A; B; sides 1 and 2; one block
+///
+/// let mut mates = [0; 96];
+/// pack(3, &[1, 2, 0, 0, 1, 2, 2, 0, 1], &[10, 11, 12], &mut mates); // AB-, -AB, B-A: each two conflict
+/// let mut answer = [0; answer_length(3, 3)];
+/// assert_eq!(check(3, &mates, &mut answer), Outcome::Accepted(1));
 /// ```
 pub fn check(n: usize, table: &[u8], answer: &mut [u8]) -> Outcome {
     read(CHECK, unsafe { ffi::haplotypes_check(n, table.as_ptr(), table.len(), answer.as_mut_ptr(), answer.len()) })
@@ -144,7 +150,8 @@ pub fn conflict_counts(n: usize, table: &[u8], counts: &mut [u8]) -> Outcome {
     })
 }
 
-/// S: the fewest columns to remove so that the rest is error-free. Accepted with their number, the answer, and the work all zero.
+/// S: the fewest columns to remove so that the rest is error-free. Accepted with their number, the answer, and the work all zero. No fragment may
+/// have a hole between two calls.
 ///
 /// ```
 /// use haplotypes::{answer_length, least_snp_removal, pack, Outcome, WORK};
@@ -157,6 +164,10 @@ pub fn conflict_counts(n: usize, table: &[u8], counts: &mut [u8]) -> Outcome {
 /// assert!(work.iter().all(|&number| number == 0));
 ///
 /// assert_eq!(least_snp_removal(2, &table, &mut work[1..], &mut answer), Outcome::Refused(10, 0)); // work too short
+///
+/// pack(3, &[1, 2, 0, 0, 1, 2, 2, 0, 1], &[10, 11, 12], &mut table); // AB-, -AB, B-A
+/// let mut answer = [0; answer_length(3, 3)];
+/// assert_eq!(least_snp_removal(3, &table, &mut work, &mut answer), Outcome::Refused(8, 2)); // the third has a hole
 /// ```
 pub fn least_snp_removal(n: usize, table: &[u8], work: &mut [u16], answer: &mut [u8]) -> Outcome {
     read(COUNT, unsafe {
@@ -172,7 +183,8 @@ pub fn least_snp_removal(n: usize, table: &[u8], work: &mut [u16], answer: &mut 
     })
 }
 
-/// F: the fewest fragments to remove so that the rest is error-free. Accepted with their number, the answer, and the work all zero.
+/// F: the fewest fragments to remove so that the rest is error-free. Accepted with their number, the answer, and the work all zero. No fragment
+/// may have a hole between two calls.
 ///
 /// Have 304 KiB of stack free. A thread of Rust's own making has 2 MiB; where one has too little, the program ends as by any overflow of the stack.
 ///
@@ -200,7 +212,7 @@ pub fn least_fragment_removal(n: usize, table: &[u8], work: &mut [u16], answer: 
 }
 
 /// C: the fewest calls to correct, A to B or B to A, so that the table is error-free. Accepted with their number, the answer, the corrected
-/// table (as long as the table given), and the work all zero.
+/// table (as long as the table given), and the work all zero. At most 8 fragments, each from its first to its last call, may cover a column.
 ///
 /// ```
 /// use haplotypes::{answer_length, least_corrections, pack, unpack, Outcome, WORK};
@@ -213,6 +225,11 @@ pub fn least_fragment_removal(n: usize, table: &[u8], work: &mut [u16], answer: 
 /// let (mut cells, mut tags) = ([0; 9], [0; 3]);
 /// unpack(3, &corrected, &mut cells, &mut tags);
 /// assert_eq!(cells, [1, 1, 0, 1, 1, 1, 0, 2, 2]); // BAA becomes AAA
+///
+/// pack(3, &[1, 2, 0, 0, 1, 2, 2, 0, 1], &[10, 11, 12], &mut table); // AB-, -AB, B-A: mates are corrected too
+/// let outcome = least_corrections(3, &table, &mut work, &mut answer, &mut corrected);
+/// assert_eq!(outcome, Outcome::Accepted(1));
+/// assert_eq!(answer, [1, 1, 1, 1, 1, 2, 2, 0, 1, 1, 1, 2, 0, 0, 0]); // kept; AAB; B-A; sides; blocks
 /// ```
 pub fn least_corrections(n: usize, table: &[u8], work: &mut [u16], answer: &mut [u8], corrected: &mut [u8]) -> Outcome {
     read(COUNT, unsafe {

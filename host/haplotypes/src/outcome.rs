@@ -12,11 +12,11 @@ use std::fmt;
 /// | 5 | stray bits: byte 7, or a cell after the span, is not 0 | the fragment |
 /// | 6 | an unknown call: a code over 2 | the fragment |
 /// | 7 | an open end: the span's first or last cell is a hole | the fragment |
-/// | 8 | gapped: a hole between two calls | the fragment |
+/// | 8 | S and F alone: gapped, a hole between two calls | the fragment |
 /// | 9 | the tag of an earlier fragment | the fragment |
 /// | 10 | work under [`WORK`](crate::WORK) numbers | 0 |
 /// | 11 | the length of an output is not exact | 0 |
-/// | 12 | C alone: over 8 calls in a column | the column |
+/// | 12 | C alone: over 8 fragments whose stretch from first to last call covers a column | the column |
 #[derive(Clone, Copy, PartialEq, Eq, Debug)]
 pub enum Outcome {
     Accepted(usize),
@@ -53,7 +53,7 @@ mod tests {
         assert_eq!(check(0), Outcome::Accepted(0));
         assert_eq!(check(1), Outcome::Accepted(1));
         assert_eq!(check(1000), Outcome::Refused(1, 0));
-        assert_eq!(check(8127), Outcome::Refused(8, 127));
+        assert_eq!(check(9127), Outcome::Refused(9, 127));
         let count = |number| read(1 << 32, number);
         assert_eq!(count(16384), Outcome::Accepted(16384));
         assert_eq!(count(1 << 32), Outcome::Refused(1, 0));
