@@ -47,6 +47,23 @@ static const uint8_t opposite[][32] = {RECORD(1, 0, 2, 5), RECORD(2, 0, 2, 10)};
 static const uint8_t opposite_counts[] = {0, 2, 2, 0};
 static const uint8_t apart[][32] = {RECORD(1, 0, 1, 1), RECORD(2, 2, 1, 2), RECORD(3, 0, 0, 0)}; /* A--, --B, --- */
 static const uint8_t apart_answer[] = {1, 1, 1, 1, 0, 2, 0, 0, 0, 1, 1, 1, 0, 1, 2};
+
+/* AB-, -AB, B-A: the gapped triangle, in which each two conflict on a column of their own; C turns the first B */
+static const uint8_t triangle[][32] = {RECORD(10, 0, 2, 0x09), RECORD(11, 1, 2, 0x09), RECORD(12, 0, 3, 0x12)};
+static const uint8_t triangle_cells[] = {1, 2, 0, 0, 1, 2, 2, 0, 1};
+static const uint8_t triangle_counts[] = {0, 1, 1, 1, 0, 1, 1, 1, 0};
+static const uint8_t triangle_c[] = {1, 1, 1, 1, 1, 2, 2, 0, 1, 1, 1, 2, 0, 0, 0}; /* 111 AAB B-A 112 0,0,0 */
+static const uint8_t triangle_corrected[][32] = {RECORD(10, 0, 2, 0x05), RECORD(11, 1, 2, 0x09), RECORD(12, 0, 3, 0x12)};
+
+static const uint8_t mates[][32] = {RECORD(1, 0, 3, 0x21), RECORD(2, 0, 3, 0x12)}; /* A-B, B-A */
+static const uint8_t mates_cells[] = {1, 0, 2, 2, 0, 1}, mates_counts[] = {0, 2, 2, 0};
+static const uint8_t mates_answer[] = {1, 1, 1, 1, 0, 2, 2, 0, 1, 1, 2, 0, 0}; /* 111 A-B B-A 12 0,0 */
+static const uint32_t mates_tags[] = {1, 2};
+/* A--A, A--B, B---, error-free but for the far mates; C turns the B of the second */
+static const uint8_t far_error[][32] = {RECORD(1, 0, 4, 0x41), RECORD(2, 0, 4, 0x81), RECORD(3, 0, 1, 0x02)};
+static const uint8_t far_error_c[] = {1, 1, 1, 1, 1, 0, 0, 1, 2, 0, 0, 0, 1, 1, 2, 0, 0, 0}; /* 1111 A--A B--- 112 0,0,0 */
+static const uint8_t far_error_corrected[][32] = {RECORD(1, 0, 4, 0x41), RECORD(2, 0, 4, 0x41), RECORD(3, 0, 1, 0x02)};
+
 static const uint8_t wide_tags[][32] = {{0xEF, 0xCD, 0xAB, 0x89}, {0xFF, 0xFF, 0xFF, 0xFF}};
 static const uint32_t wide_tags_read[] = {0x89ABCDEF, 0xFFFFFFFF};
 
@@ -56,10 +73,13 @@ static const uint8_t byte_7[][32] = {RECORD(1, 0, 1, 1), {2, 0, 0, 0, 0, 0, 1, 1
 static const uint8_t stray_cell[][32] = {RECORD(1, 0, 1, 5)};
 static const uint8_t unknown[][32] = {RECORD(1, 0, 1, 3)};
 static const uint8_t open_end[][32] = {RECORD(1, 0, 2, 1)};
-static const uint8_t gapped[][32] = {RECORD(1, 0, 2, 9), RECORD(2, 1, 2, 9), RECORD(3, 0, 3, 18)}; /* AB-, -AB, B-A */
+static const uint8_t open_gapped[][32] = {RECORD(1, 0, 4, 0x11)};                                         /* A-A-, with the last hole in the span */
+static const uint8_t gapped_first[][32] = {RECORD(1, 0, 3, 0x11), RECORD(2, 3, 1, 1)};                    /* A-A; A past three columns */
+static const uint8_t gapped_twice[][32] = {RECORD(1, 0, 1, 1), RECORD(1, 0, 3, 0x11)};                    /* A--, A-A */
+static const uint8_t gapped_last[][32] = {RECORD(1, 0, 1, 1), RECORD(1, 0, 1, 2), RECORD(2, 0, 3, 0x11)}; /* A--, B--, A-A */
 static const uint8_t twice[][32] = {RECORD(1, 0, 1, 1), RECORD(1, 0, 1, 2)};
 
-static const uint8_t gapped_cells[] = {1, 2, 0, 0, 1, 2, 2, 0, 1}, unknown_cells[] = {1, 1, 0, 2, 3, 1, 0, 2, 2};
+static const uint8_t unknown_cells[] = {1, 1, 0, 2, 3, 1, 0, 2, 2};
 static const uint32_t same_tags[] = {10, 11, 10};
 
 static const uint8_t no_conflicts[128 * 128] = {0}; /* the counts of up to 128 fragments */
@@ -67,6 +87,37 @@ static const uint8_t no_conflicts[128 * 128] = {0}; /* the counts of up to 128 f
 /* made at the start: 129 fragments A at column 0, the answer of 128 of them for 1 and for 128 columns; a row of calls at 97 columns; 128 fragments that call
  * columns 32 to 127, As and Bs by turns, and their counts */
 static uint8_t crowd[129][32], crowd_answer[3 + 256], wide_crowd_answer[3 * 128 + 256], long_row[97], turns[128][32], turns_counts[128 * 128];
+
+/* made at the start too: 8 fragments A-A, their answer, and after them -A-; a fragment of A at column 32 and B at column 127, its cells and its answer */
+static uint8_t stretches[9][32], stretches_answer[3 * 3 + 16], far_apart[1][32], far_apart_cells[128], far_apart_answer[3 * 128 + 2];
+
+static void make_stretches(void)
+{
+    for (size_t i = 0; i < COUNT(stretches); i++) {
+        stretches[i][0] = (uint8_t)i;
+        stretches[i][4] = i == 8;
+        stretches[i][6] = i == 8 ? 1 : 3;
+        stretches[i][8] = i == 8 ? 1 : 0x11;
+    }
+    memset(stretches_answer, 1, 3);
+    stretches_answer[3] = stretches_answer[5] = 1;
+    memset(stretches_answer + 9, 1, 8);
+    for (size_t i = 0; i < 8; i++)
+        stretches_answer[17 + i] = (uint8_t)i;
+}
+
+static void make_far_apart(void)
+{
+    far_apart[0][0] = 1;
+    far_apart[0][4] = 32;
+    far_apart[0][6] = 96;
+    far_apart[0][8] = 1;
+    far_apart[0][31] = 2 << 6;
+    memset(far_apart_answer, 1, 128);
+    far_apart_cells[32] = far_apart_answer[128 + 32] = 1;
+    far_apart_cells[127] = far_apart_answer[128 + 127] = 2;
+    far_apart_answer[3 * 128] = 1;
+}
 
 static void make_tables(void)
 {
@@ -97,6 +148,9 @@ static const struct row rows[] = {
     {"unpack", UNPACK, 3, 3, {ALL(printed), NONE}, {ALL(printed_cells), ALL(printed_tags), NONE}},
     {"unpack no records", UNPACK, 0, 0, {NONE, NONE}, {NONE, NONE, NONE}},
     {"unpack tags of four bytes", UNPACK, 0, 2, {ALL(wide_tags), NONE}, {NONE, ALL(wide_tags_read), NONE}},
+    {"unpack the gapped triangle", UNPACK, 3, 3, {ALL(triangle), NONE}, {ALL(triangle_cells), ALL(printed_tags), NONE}},
+    {"unpack mates", UNPACK, 3, 2, {ALL(mates), NONE}, {ALL(mates_cells), ALL(mates_tags), NONE}},
+    {"unpack mates over 96 columns", UNPACK, 128, 1, {ALL(far_apart), NONE}, {ALL(far_apart_cells), {mates_tags, 4}, NONE}},
 
     {"pack", PACK, 3, 3, {ALL(printed_cells), ALL(printed_tags)}, {ALL(printed), NONE, NONE}},
     {"pack no fragments", PACK, 0, 0, {NONE, NONE}, {NONE, NONE, NONE}},
@@ -106,8 +160,11 @@ static const struct row rows[] = {
     {"pack 129 fragments", PACK, 0, REFUSED(2, 0), {NONE, {work, 4 * 129}}, {LEFT(32 * 129), NONE, NONE}},
     {"pack an unknown call", PACK, 3, REFUSED(6, 1), {ALL(unknown_cells), ALL(printed_tags)}, {LEFT(96), NONE, NONE}},
     {"pack calls over 97 columns", PACK, 97, REFUSED(4, 0), {ALL(long_row), {printed_tags, 4}}, {LEFT(32), NONE, NONE}},
-    {"pack a gapped fragment", PACK, 3, REFUSED(8, 2), {ALL(gapped_cells), ALL(printed_tags)}, {LEFT(96), NONE, NONE}},
+    {"pack the gapped triangle", PACK, 3, 3, {ALL(triangle_cells), ALL(printed_tags)}, {ALL(triangle), NONE, NONE}},
+    {"pack mates", PACK, 3, 2, {ALL(mates_cells), ALL(mates_tags)}, {ALL(mates), NONE, NONE}},
+    {"pack mates over 96 columns", PACK, 128, 1, {ALL(far_apart_cells), {mates_tags, 4}}, {ALL(far_apart), NONE, NONE}},
     {"pack a tag twice", PACK, 3, REFUSED(9, 2), {ALL(printed_cells), ALL(same_tags)}, {LEFT(96), NONE, NONE}},
+    {"pack a hole and a tag twice", PACK, 3, REFUSED(9, 2), {ALL(triangle_cells), ALL(same_tags)}, {LEFT(96), NONE, NONE}},
 
     {"find the first record", FIND, 10, 0, {ALL(printed), NONE}, {NONE, NONE, NONE}},
     {"find the last record", FIND, 12, 64, {ALL(printed), NONE}, {NONE, NONE, NONE}},
@@ -126,6 +183,11 @@ static const struct row rows[] = {
     {"check empty", CHECK, 0, 0, {NONE, NONE}, {NONE, NONE, NONE}},
     {"check 128 fragments", CHECK, 1, 0, {{crowd, 32 * 128}, NONE}, {ALL(crowd_answer), NONE, NONE}},
     {"check 128 fragments, 128 columns", CHECK, 128, 0, {{crowd, 32 * 128}, NONE}, {ALL(wide_crowd_answer), NONE, NONE}},
+    {"check the gapped triangle", CHECK, 3, 1, {ALL(triangle), NONE}, {LEFT(15), NONE, NONE}},
+    {"check the triangle corrected", CHECK, 3, 0, {ALL(triangle_corrected), NONE}, {ALL(triangle_c), NONE, NONE}},
+    {"check mates", CHECK, 3, 0, {ALL(mates), NONE}, {ALL(mates_answer), NONE, NONE}},
+    {"check mates, an error on the far one", CHECK, 4, 1, {ALL(far_error), NONE}, {LEFT(18), NONE, NONE}},
+    {"check mates over 96 columns", CHECK, 128, 0, {ALL(far_apart), NONE}, {ALL(far_apart_answer), NONE, NONE}},
 
     {"conflict_counts", CONFLICT_COUNTS, 3, 3, {ALL(printed), NONE}, {ALL(printed_counts), NONE, NONE}},
     {"conflict_counts of pair", CONFLICT_COUNTS, 1, 2, {ALL(pair), NONE}, {ALL(pair_counts), NONE, NONE}},
@@ -136,6 +198,8 @@ static const struct row rows[] = {
     {"conflict_counts of fragments, no columns", CONFLICT_COUNTS, 0, 2, {ALL(wide_tags), NONE}, {{no_conflicts, 4}, NONE, NONE}},
     {"conflict_counts of 128 fragments", CONFLICT_COUNTS, 1, 128, {{crowd, 32 * 128}, NONE}, {ALL(no_conflicts), NONE, NONE}},
     {"conflict_counts of 128 fragments, 128 columns", CONFLICT_COUNTS, 128, 128, {ALL(turns), NONE}, {ALL(turns_counts), NONE, NONE}},
+    {"conflict_counts of the gapped triangle", CONFLICT_COUNTS, 3, 3, {ALL(triangle), NONE}, {ALL(triangle_counts), NONE, NONE}},
+    {"conflict_counts on both mates", CONFLICT_COUNTS, 3, 2, {ALL(mates), NONE}, {ALL(mates_counts), NONE, NONE}},
 
     {"S", SNPS, 3, 1, {ALL(printed), NONE}, {ALL(work), ALL(printed_s), NONE}},
     {"S with more work", SNPS, 3, 1, {ALL(printed), NONE}, {ALL(more_work), ALL(printed_s), NONE}},
@@ -151,28 +215,44 @@ static const struct row rows[] = {
     {"C with more work", CORRECTIONS, 3, 1, {ALL(printed), NONE}, {ALL(more_work), ALL(printed_c), ALL(corrected)}},
     {"C of no records", CORRECTIONS, 0, 0, {NONE, NONE}, {ALL(work), NONE, NONE}},
     {"C of 9 calls in a column", CORRECTIONS, 1, REFUSED(12, 0), {{crowd, 32 * 9}, NONE}, {LEFT(65536), LEFT(21), LEFT(32 * 9)}},
+    {"C of 8 stretches over a column that no one calls", CORRECTIONS, 3, 0, {{stretches, 32 * 8}, NONE},
+     {ALL(work), ALL(stretches_answer), {stretches, 32 * 8}}},
+    {"C of 9 stretches over a column that one calls", CORRECTIONS, 3, REFUSED(12, 1), {ALL(stretches), NONE}, {LEFT(65536), LEFT(27), LEFT(32 * 9)}},
+    {"C of the gapped triangle", CORRECTIONS, 3, 1, {ALL(triangle), NONE}, {ALL(work), ALL(triangle_c), ALL(triangle_corrected)}},
+    {"C of mates", CORRECTIONS, 3, 0, {ALL(mates), NONE}, {ALL(work), ALL(mates_answer), ALL(mates)}},
+    {"C of mates, an error on the far one", CORRECTIONS, 4, 1, {ALL(far_error), NONE}, {ALL(work), ALL(far_error_c), ALL(far_error_corrected)}},
+    {"C of mates over 96 columns", CORRECTIONS, 128, 0, {ALL(far_apart), NONE}, {ALL(work), ALL(far_apart_answer), ALL(far_apart)}},
 };
 
-/* Tables that every service but pack and find refuses alike. */
+/* Tables that are refused, and by whom: every service but pack and find, S and F alone, which take no holes, or the others alone. */
+enum refusing { EVERY, GAPLESS, OTHERS };
+
 static const struct {
     const char *name;
     size_t n;
     struct given table;
     uint32_t number, place;
+    enum refusing by;
 } refused[] = {
-    {"129 columns", 129, ALL(pair), 3, 0},
-    {"129 columns before ragged", 129, {printed, 33}, 3, 0},
-    {"ragged", 3, {printed, 33}, 1, 0},
-    {"129 fragments", 1, ALL(crowd), 2, 0},
-    {"no columns for its calls", 0, ALL(pair), 4, 0},
-    {"a span of 97", 128, ALL(long_span), 4, 0},
-    {"a start without calls", 3, ALL(start_alone), 4, 0},
-    {"byte 7", 1, ALL(byte_7), 5, 1},
-    {"a cell after the span", 2, ALL(stray_cell), 5, 0},
-    {"an unknown call", 1, ALL(unknown), 6, 0},
-    {"an open end", 2, ALL(open_end), 7, 0},
-    {"gapped", 3, ALL(gapped), 8, 2},
-    {"a tag twice", 1, ALL(twice), 9, 1},
+    {"129 columns", 129, ALL(pair), 3, 0, EVERY},
+    {"129 columns before ragged", 129, {printed, 33}, 3, 0, EVERY},
+    {"ragged", 3, {printed, 33}, 1, 0, EVERY},
+    {"129 fragments", 1, ALL(crowd), 2, 0, EVERY},
+    {"no columns for its calls", 0, ALL(pair), 4, 0, EVERY},
+    {"a span of 97", 128, ALL(long_span), 4, 0, EVERY},
+    {"a start without calls", 3, ALL(start_alone), 4, 0, EVERY},
+    {"byte 7", 1, ALL(byte_7), 5, 1, EVERY},
+    {"a cell after the span", 2, ALL(stray_cell), 5, 0, EVERY},
+    {"an unknown call", 1, ALL(unknown), 6, 0, EVERY},
+    {"an open end", 2, ALL(open_end), 7, 0, EVERY},
+    {"a hole and an open end", 4, ALL(open_gapped), 7, 0, EVERY},
+    {"the gapped triangle", 3, ALL(triangle), 8, 2, GAPLESS},
+    {"a hole and a tag twice", 3, ALL(gapped_twice), 8, 1, GAPLESS},
+    {"a hole and a tag twice", 3, ALL(gapped_twice), 9, 1, OTHERS},
+    {"a hole before a record out of frame", 3, ALL(gapped_first), 8, 0, GAPLESS},
+    {"a hole before a record out of frame", 3, ALL(gapped_first), 4, 1, OTHERS},
+    {"a tag twice", 1, ALL(twice), 9, 1, EVERY},
+    {"a tag twice before a hole", 3, ALL(gapped_last), 9, 1, EVERY},
 };
 
 /* ---- a case */
@@ -249,24 +329,30 @@ static void test_row(const struct row *row)
 
 /* ---- cases made from the tables above */
 
-/* A table that is refused, with outputs of exact lengths. */
+/* A table that the service refuses, with outputs of exact lengths. */
+static void test_refusal(size_t i, enum service service)
+{
+    char name[80];
+    size_t lengths[LENT];
+    const uint32_t number = refused[i].number, place = refused[i].place;
+    const uint64_t code = service == CHECK ? CHECK_REFUSED(number, place) : REFUSED(number, place);
+    struct row row = {name, service, refused[i].n, code, {refused[i].table, NONE}, {NONE, NONE, NONE}};
+    snprintf(name, sizeof name, "%s refuses %s", service_names[service], refused[i].name);
+    exact_lengths(service, row.n, refused[i].table.length / HAPLOTYPES_RECORD, lengths);
+    for (size_t k = 0; k < LENT; k++) {
+        row.out[k].bytes = NULL;
+        row.out[k].length = lengths[k];
+    }
+    test_row(&row);
+}
+
 static void test_refused(size_t i)
 {
-    static const enum service services[] = {UNPACK, CHECK, CONFLICT_COUNTS, SNPS, FRAGMENTS, CORRECTIONS};
-    for (size_t s = 0; s < COUNT(services); s++) {
-        char name[80];
-        size_t lengths[LENT];
-        const uint32_t number = refused[i].number, place = refused[i].place;
-        const uint64_t code = services[s] == CHECK ? CHECK_REFUSED(number, place) : REFUSED(number, place);
-        struct row row = {name, services[s], refused[i].n, code, {refused[i].table, NONE}, {NONE, NONE, NONE}};
-        snprintf(name, sizeof name, "%s refuses %s", service_names[row.service], refused[i].name);
-        exact_lengths(row.service, row.n, refused[i].table.length / HAPLOTYPES_RECORD, lengths);
-        for (size_t k = 0; k < LENT; k++) {
-            row.out[k].bytes = NULL;
-            row.out[k].length = lengths[k];
-        }
-        test_row(&row);
-    }
+    static const enum service gapless[] = {SNPS, FRAGMENTS}, others[] = {UNPACK, CHECK, CONFLICT_COUNTS, CORRECTIONS};
+    for (size_t s = 0; refused[i].by != OTHERS && s < COUNT(gapless); s++)
+        test_refusal(i, gapless[s]);
+    for (size_t s = 0; refused[i].by != GAPLESS && s < COUNT(others); s++)
+        test_refusal(i, others[s]);
 }
 
 /* A row whose k-th output is an element shorter or longer: refused, but for longer work, which has rows of its own. */
@@ -366,6 +452,8 @@ static void test_numbers(void)
 int main(void)
 {
     make_tables();
+    make_stretches();
+    make_far_apart();
     for (size_t i = 0; i < COUNT(rows); i++)
         test_row(&rows[i]);
     for (size_t i = 0; i < COUNT(refused); i++)

@@ -159,13 +159,15 @@ static void set_call(enum service which)
         out[k] = (struct lent){outputs + k * OUTPUT, lengths[k]};
 }
 
-/* Is the code one of an accepted call? C alone may refuse, tables that are too deep. */
+/* Is the code one of an accepted call? S and F alone may refuse mates, and C tables that are too deep. */
 static int accepted(uint64_t code)
 {
-    const int refused = service == CHECK ? 0 < haplotypes_verdict_refusal(code) : !haplotypes_count_accepted(code);
-    if (refused && (service != CORRECTIONS || haplotypes_count_refusal(code) != HAPLOTYPES_TOO_DEEP))
+    const uint64_t number = service == CHECK ? haplotypes_verdict_refusal(code) : haplotypes_count_refusal(code);
+    const int gapped = number == HAPLOTYPES_GAPPED && (service == SNPS || service == FRAGMENTS);
+    const int deep = number == HAPLOTYPES_TOO_DEEP && service == CORRECTIONS;
+    if (number != HAPLOTYPES_ACCEPTED && !gapped && !deep)
         fail(service_names[service], "refuses a table");
-    return !refused;
+    return number == HAPLOTYPES_ACCEPTED;
 }
 
 /* What the call takes, and 0 where it is refused. */

@@ -47,6 +47,11 @@ impl Service {
             C => "C",
         }
     }
+
+    /// Whether it refuses a hole between two calls, by rule 8. All others take mates.
+    pub fn refuses_holes(self) -> bool {
+        matches!(self, S | F)
+    }
 }
 
 /// Every service that can refuse: all but find.

@@ -6,12 +6,12 @@ use std::ops::Range;
 use crate::calls::Service::ConflictCounts;
 use crate::calls::{Sizes, Trials};
 use crate::expected::Expected;
-use crate::fixtures::{lone, Fixture};
+use crate::fixtures::{lone, mates, Fixture};
 
 /// A name, the fragments, and their counts.
 type Row = (&'static str, &'static [&'static str], &'static str);
 
-const SMALL: [Row; 12] = [
+const SMALL: [Row; 18] = [
     ("AA and BB", &["AA", "BB"], "02 20"),
     ("AB and BA", &["AB", "BA"], "02 20"),
     ("AB and BB", &["AB", "BB"], "01 10"),
@@ -24,6 +24,12 @@ const SMALL: [Row; 12] = [
     ("a fragment without calls between", &["AAB", "---", "BBA"], "003 000 300"),
     ("a fragment without calls last", &["AAB", "BBA", "---"], "030 300 000"),
     ("a fragment without calls and one with", &["--", "AB"], "00 00"),
+    ("on both mates", &["AA--BA", "BB--AA"], "03 30"),
+    ("on the near mates alone", &["AA--BA", "BB--BA"], "02 20"),
+    ("on the far mates alone", &["AA--BA", "AA--AB"], "02 20"),
+    ("a fragment in the hole between mates", &["A--B", "-BA-"], "00 00"),
+    ("calls over a hole, and on one mate", &["A--B", "ABAA"], "01 10"),
+    ("a far mate against a near one", &["AB---", "-A--B", "----A"], "010 101 010"),
 ];
 
 #[test]
@@ -52,6 +58,17 @@ fn each_column_by_itself() {
         let fragments = [lone('A', c, 128), lone('B', next, 128), lone('B', c, 128), lone('A', c, 128)];
         let expected = Expected::counted("0010 0000 1001 0010");
         trials.run(&format!("column {c}"), ConflictCounts, &Fixture::of(&fragments), &expected);
+    }
+}
+
+/// Both mates count, also where one lies below column 64 and the other does not.
+#[test]
+fn each_column_with_the_one_64_further() {
+    let mut trials = Trials::default();
+    for c in 0..64 {
+        let fragments = [['A', 'A'], ['B', 'B'], ['A', 'B']].map(|[near, far]| mates([(near, c), (far, c + 64)], 128));
+        let expected = Expected::counted("021 201 110");
+        trials.run(&format!("columns {c} and {}", c + 64), ConflictCounts, &Fixture::of(&fragments), &expected);
     }
 }
 

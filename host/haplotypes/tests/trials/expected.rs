@@ -89,6 +89,19 @@ impl Each {
         Each { unpack, pack, check: Expected::untouched(Accepted(1)), conflict_counts, s, f, c }
     }
 
+    /// Of conflict_counts and C, where a record has a hole between two calls: S and F refuse it.
+    pub fn of_gapped_errors(given: &Fixture, place: usize, conflict_counts: Expected, c: Expected) -> Each {
+        let refused = Expected::refused(8, place);
+        Each::of_errors(given, conflict_counts, [refused.clone(), refused, c])
+    }
+
+    /// S and F refuse the record, which has a hole between two calls, and no other service does.
+    pub fn gapped(mut self, place: usize) -> Each {
+        self.s = Expected::refused(8, place);
+        self.f = Expected::refused(8, place);
+        self
+    }
+
     /// C refuses the column, and no other service does.
     pub fn too_deep(mut self, column: usize) -> Each {
         self.c = Expected::refused(12, column);

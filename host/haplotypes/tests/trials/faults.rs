@@ -1,8 +1,8 @@
-//! The rules of a record, 4 to 9: each of them alone, at the first record and at later ones.
+//! The rules of a record, 4 to 9: each of them alone, at the first record and at later ones. Rule 8 is of S and F alone.
 
 use crate::calls::{Trials, OF_TABLES, SERVICES};
 use crate::expected::{Each, Expected};
-use crate::fixtures::{lone, padded, Fixture};
+use crate::fixtures::{lone, mates, padded, Fixture};
 
 /// A record that is refused in n columns: its letters, the bytes of it that are then changed, and the rule's number.
 pub type Fault<'a> = (&'a str, usize, &'a str, &'a [(usize, u8)], u8);
@@ -15,6 +15,7 @@ pub fn with_fault(fault: Fault, place: usize) -> Fixture {
     Fixture::of(&fragments).edited(place, edits)
 }
 
+/// Faults that every service refuses that is given a table.
 pub fn run_faults(faults: &[Fault]) {
     let mut trials = Trials::default();
     for &fault in faults {
@@ -98,29 +99,38 @@ fn open_ends() {
     ]);
 }
 
+/// The records beside the gapped one call A on column 0, and this one calls no B there: no two conflict, and those that
+/// take it have its letters in haplotype 1.
 #[test]
 fn gaps() {
+    let mut trials = Trials::default();
     let (early, late) = (format!("A-{}", "A".repeat(94)), format!("{}-A", "A".repeat(94)));
-    let ends = format!("A{}A", "-".repeat(94));
-    run_faults(&[
-        ("A-A", 3, "A-A", &[], 8),
-        ("A-B from column 1", 4, "-A-B", &[], 8),
-        ("A--B", 4, "A--B", &[], 8),
-        ("two gaps", 5, "A-B-A", &[], 8),
-        ("calls at the ends of 96 columns", 96, &ends, &[], 8),
-        ("cell 1 of 96 a hole", 128, &early, &[], 8),
-        ("cell 94 of 96 a hole", 128, &late, &[], 8),
-    ]);
+    let ends = mates([('A', 0), ('A', 95)], 96);
+    let rows = [
+        ("A-A", 3, "A-A"),
+        ("A-B from column 1", 4, "-A-B"),
+        ("A--B", 4, "A--B"),
+        ("two gaps", 5, "A-B-A"),
+        ("calls at the ends of 96 columns", 96, &ends),
+        ("cell 1 of 96 a hole", 128, &early),
+        ("cell 94 of 96 a hole", 128, &late),
+    ];
+    for (name, n, letters) in rows {
+        let fields = format!("{} A{} {} 111 0,1,2", "1".repeat(n), &padded(letters, n)[1..], "-".repeat(n));
+        for place in 0..3 {
+            let given = with_fault((name, n, letters, &[], 8), place);
+            let expected = Each::of_conflict_free(&given, &fields).gapped(place);
+            trials.run_each(&format!("{name} at record {place}"), &given, &expected);
+        }
+    }
 }
 
 /// The faults that letters have, for pack too.
 #[test]
 fn letters_that_every_service_refuses() {
     let mut trials = Trials::default();
-    let rows: [(&str, [&str; 3], Expected); 6] = [
-        ("paper: AB-, -AB, B-A", ["AB-", "-AB", "B-A"], Expected::refused(8, 2)),
-        ("a gap at 0", ["A-B", "AAA", "AAA"], Expected::refused(8, 0)),
-        ("a gap at 1", ["AAA", "B-B", "AAA"], Expected::refused(8, 1)),
+    let rows: [(&str, [&str; 3], Expected); 4] = [
+        ("a code 3 at 0, in mates", ["A-?", "AAA", "AAA"], Expected::refused(6, 0)),
         ("a code 3 at 0", ["A?A", "AAA", "AAA"], Expected::refused(6, 0)),
         ("a code 3 at 1", ["AAA", "--?", "AAA"], Expected::refused(6, 1)),
         ("a code 3 at 2", ["AAA", "AAA", "?--"], Expected::refused(6, 2)),

@@ -61,6 +61,17 @@ pub fn lone(letter: char, column: usize, n: usize) -> String {
     (0..n).map(|c| if c == column { letter } else { '-' }).collect()
 }
 
+/// A letter in each of two columns, and holes in the other columns up to n.
+pub fn mates([near, far]: [(char, usize); 2], n: usize) -> String {
+    let letter = |c: usize| [near, far].into_iter().find(|&(_, column)| column == c).map_or('-', |(letter, _)| letter);
+    (0..n).map(letter).collect()
+}
+
+/// Is there a hole between two calls?
+pub fn is_gapped(letters: &str) -> bool {
+    letters.trim_matches('-').contains('-')
+}
+
 /// An answer from the fields of a listing's line: keep marks, haplotype 1, haplotype 2, sides, blocks.
 pub fn answer(line: &str) -> Vec<u8> {
     let fields: Vec<&str> = line.split(' ').map(|field| if field == "." { "" } else { field }).collect();

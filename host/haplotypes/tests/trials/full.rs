@@ -16,11 +16,16 @@ fn steps(second: &str) -> Vec<String> {
     (0..128).map(|i| "-".repeat(i / 8 * 8) + step[i % 8] + &"-".repeat(120 - i / 8 * 8)).collect()
 }
 
-/// In each step a fragment has no B, one on the third column, or 8 of them: two fragments conflict on as many columns
-/// as these numbers differ by. So fragments 0, 1 and 4 conflict with each other, and each step needs a change. S:
-/// without another column than the third they still do. F: any fragment but 1 has an equal one, which would still do.
-/// C: a side with some of the first four and some of the last costs 7 or more, 1 on each column but the third; apart,
-/// they cost 1, on the third.
+/// The counts from how many Bs each fragment of a step has. The Bs of one lie among those of any with more, so two
+/// conflict on as many columns as these numbers differ by.
+fn counted_in_steps(bs: [usize; 8]) -> Expected {
+    Expected::counted_by(128, |i, j| if i / 8 == j / 8 { bs[i % 8].abs_diff(bs[j % 8]) } else { 0 })
+}
+
+/// In each step a fragment has no B, one on the third column, or 8 of them. So fragments 0, 1 and 4 conflict with each
+/// other, and each step needs a change. S: without another column than the third they still do. F: any fragment but 1
+/// has an equal one, which would still do. C: a side with some of the first four and some of the last costs 7 or more,
+/// 1 on each column but the third; apart, they cost 1, on the third.
 #[test]
 fn steps_of_depth_8() {
     let mut trials = Trials::default();
@@ -34,16 +39,37 @@ fn steps_of_depth_8() {
     let f = format!("16 {kept} {a} {b} {} {left}", "10112222".repeat(16));
     let c = format!("16 {kept} {a} {b} {sides} {blocks}");
     let c = Expected::corrected(&c, &steps("AAAAAAAA"));
-    let counted = |bs: [usize; 8]| {
-        Expected::counted_by(128, |i, j| if i / 8 == j / 8 { bs[i % 8].abs_diff(bs[j % 8]) } else { 0 })
-    };
     let answers = [Expected::listed(&s), Expected::listed(&f), c];
-    let expected = Each::of_errors(&given, counted([0, 1, 0, 0, 8, 8, 8, 8]), answers);
+    let expected = Each::of_errors(&given, counted_in_steps([0, 1, 0, 0, 8, 8, 8, 8]), answers);
     trials.run_each("16 steps with an error each", &given, &expected);
     let right = Fixture::of(&steps("AAAAAAAA"));
     let fields = format!("{kept} {a} {b} {sides} {blocks}");
-    let expected = Each::of_error_free(&right, counted([0, 0, 0, 0, 8, 8, 8, 8]), &fields);
+    let expected = Each::of_error_free(&right, counted_in_steps([0, 0, 0, 0, 8, 8, 8, 8]), &fields);
     trials.run_each("16 steps without errors", &right, &expected);
+}
+
+/// Holes on the fourth to sixth column of every step.
+fn with_holes(letters: &str) -> String {
+    letters.char_indices().map(|(c, letter)| if (3..6).contains(&(c % 8)) { '-' } else { letter }).collect()
+}
+
+/// The steps as mates of three and two columns, over three that no one calls: a fragment has no B, one on the third
+/// column, or 5 of them. C: a side with some of the first four and some of the last costs 4 or more, and apart they
+/// cost 1.
+#[test]
+fn steps_of_mates() {
+    let mut trials = Trials::default();
+    let holed = |second: &str| -> Vec<String> { steps(second).iter().map(|letters| with_holes(letters)).collect() };
+    let haplotypes = ["A", "B"].map(|letter| with_holes(&letter.repeat(128))).join(" ");
+    let fields =
+        format!("{} {haplotypes} {} {}", "1".repeat(128), "11112222".repeat(16), joined(128, |i| Some(i / 8 * 8)));
+    let given = Fixture::of(&holed("AABAAAAA"));
+    let c = Expected::corrected(&format!("16 {fields}"), &holed("AAAAAAAA"));
+    let expected = Each::of_gapped_errors(&given, 0, counted_in_steps([0, 1, 0, 0, 5, 5, 5, 5]), c);
+    trials.run_each("16 steps of mates with an error each", &given, &expected);
+    let right = Fixture::of(&holed("AAAAAAAA"));
+    let expected = Each::of_error_free(&right, counted_in_steps([0, 0, 0, 0, 5, 5, 5, 5]), &fields).gapped(0);
+    trials.run_each("16 steps of mates without errors", &right, &expected);
 }
 
 /// Fragment i spells the bits of i, B for 1, lowest first: two fragments conflict where their bits differ. Every two

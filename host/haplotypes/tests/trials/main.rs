@@ -1,6 +1,6 @@
 //! Trials of the eight services, as tables: a row has a name, the input in letters, and the outcome and the bytes that
-//! are expected. These are written out from the definitions of paper 01, by hand or by an argument that stands beside
-//! the table, and never taken from a run.
+//! are expected. These are written out from the definitions of papers 01 and 02, by hand or by an argument that stands
+//! beside the table, and never taken from a run.
 
 mod answers;
 mod calls;
@@ -11,6 +11,7 @@ mod faults;
 mod find;
 mod fixtures;
 mod full;
+mod mates;
 mod order;
 mod records;
 mod sizes;

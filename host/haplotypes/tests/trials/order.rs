@@ -1,30 +1,31 @@
-//! Of several faults, the one that is refused: 3, 1, 2, 10, 11; then records from 0, each by 4 to 9; then 12, which
-//! `depths` tries. Pack: 3, 1, 2, 11; then fragments from 0, each by 6, 4, 8, 9.
+//! Of several faults, the one that is refused: 3, 1, 2, 10, 11; then records from 0, each by 4 to 7 and 9, for S and F
+//! by 4 to 9; then 12, which `depths` tries. Pack: 3, 1, 2, 11; then fragments from 0, each by 6, 4, 9.
 
 use crate::calls::{Service, Sizes, Trials, OF_TABLES, SERVICES, WITH_WORK};
 use crate::expected::{Each, Expected};
 use crate::faults::{run_faults, Fault};
-use crate::fixtures::{padded, Fixture};
+use crate::fixtures::{mates, padded, Fixture};
 
 /// Name, columns, fragments, whether the bytes (for pack, the cells) are one too many, the length of the work, what
 /// every output has too much, and the number: of a service that borrows work, and of one that does not.
 type Faults = (&'static str, usize, usize, bool, usize, usize, u8, u8);
 
-/// Each row has the faults of the next one too. The fragments are gapped, and too many for C in column 0.
+/// Each row has the faults of the next one too. The fragments have a hole and an unknown call, and are too many for C in
+/// column 0.
 const SIZES: [Faults; 6] = [
     ("129 columns", 129, 129, true, 32_767, 1, 3, 3),
     ("ragged", 3, 129, true, 32_767, 1, 1, 1),
     ("129 fragments", 3, 129, false, 32_767, 1, 2, 2),
     ("short work", 3, 9, false, 32_767, 1, 10, 11),
     ("wrong outputs", 3, 9, false, 32_768, 1, 11, 11),
-    ("gapped records", 3, 9, false, 32_768, 0, 8, 8),
+    ("unknown calls", 3, 9, false, 32_768, 0, 6, 6),
 ];
 
 #[test]
 fn sizes_come_before_records() {
     let mut trials = Trials::default();
     for (name, n, m, ragged, work, more, number, number_without_work) in SIZES {
-        let mut given = Fixture::of(&vec![padded("A-A", n); m]);
+        let mut given = Fixture::of(&vec![padded("A-?", n); m]);
         given.table.extend(ragged.then_some(0));
         given.cells.extend(ragged.then_some(0));
         let exact = Sizes::of(&given);
@@ -37,7 +38,22 @@ fn sizes_come_before_records() {
     }
 }
 
-/// The same by pairs, with lengths 0 in the place of one too many.
+/// The same of nine mates, whose records no service refuses but S and F, by 8; C refuses column 0.
+#[test]
+fn sizes_come_before_holes_and_depths() {
+    let mut trials = Trials::default();
+    let given = Fixture::of(&["A-A"; 9]);
+    let exact = Sizes::of(&given);
+    let (short, wrong) = (Sizes { work: 32_767, ..exact }, Sizes { answer: exact.answer + 1, ..exact });
+    for service in WITH_WORK {
+        trials.run_sized("short work", service, &given, short, &Expected::refused(10, 0));
+        trials.run_sized("a wrong answer", service, &given, wrong, &Expected::refused(11, 0));
+        let number = if service.refuses_holes() { 8 } else { 12 };
+        trials.run("right sizes", service, &given, &Expected::refused(number, 0));
+    }
+}
+
+/// Sizes by pairs, with lengths 0 in the place of one too many.
 #[test]
 fn sizes_by_pairs() {
     let mut trials = Trials::default();
@@ -74,13 +90,13 @@ fn outputs_come_before_records() {
     trials.run_sized("and wrong tags", Service::Unpack, &given, sizes, &Expected::refused(11, 0));
 }
 
-/// Each row has the faults of the next one too. Byte 8 has four of the five cells, and byte 9 the last.
-const OF_A_RECORD: [Fault; 5] = [
+/// Each row has the faults of the next one too, and the last a hole. Byte 8 has four of the five cells, and byte 9 the
+/// last.
+const OF_A_RECORD: [Fault; 4] = [
     ("4 to 8", 5, "AAAAA", &[(4, 1), (7, 1), (8, 0b01_00_01_00), (9, 0b11)], 4),
     ("5 to 8", 5, "AAAAA", &[(7, 1), (8, 0b01_00_01_00), (9, 0b11)], 5),
     ("6 to 8", 5, "AAAAA", &[(8, 0b01_00_01_00), (9, 0b11)], 6),
     ("7 and 8", 5, "AAAAA", &[(8, 0b01_00_01_00)], 7),
-    ("8", 5, "AAAAA", &[(8, 0b01_00_01_01)], 8),
 ];
 
 #[test]
@@ -96,55 +112,74 @@ fn rules_of_a_record() {
     ]);
 }
 
-/// The same with the tag of an earlier record.
+/// The same with the tag of an earlier record. Between 7 and 9 only S and F see the hole.
 #[test]
 fn rules_of_a_record_with_a_tag_twice() {
     let mut trials = Trials::default();
     let twice = Fixture::tagged(&["A----", "AAAAA", "A----"], &[10, 10, 12]);
+    let gapped = Fixture::tagged(&["A----", "AA-AA", "A----"], &[10, 10, 12]);
     for service in OF_TABLES {
         for (name, _, _, edits, number) in OF_A_RECORD {
             let given = twice.clone().edited(1, edits);
             trials.run(&format!("{name} and 9"), service, &given, &Expected::refused(number, 1));
         }
+        let number = if service.refuses_holes() { 8 } else { 9 };
+        trials.run("8 and 9", service, &gapped, &Expected::refused(number, 1));
         trials.run("9", service, &twice, &Expected::refused(9, 1));
     }
+    let given = Fixture::tagged(&["A----", "AA-AA", "A----"], &[10, 11, 12]);
+    trials.run_each("8", &given, &Each::of_conflict_free(&given, "11111 AA-AA ----- 111 0,1,2").gapped(1));
     let given = Fixture::tagged(&["A----", "AAAAA", "A----"], &[10, 11, 12]);
     trials.run_each("none", &given, &Each::of_conflict_free(&given, "11111 AAAAA ----- 111 0,1,2"));
 }
 
-/// Calls at both ends of 128 columns reach over more than 96, and are gapped. As a record they are out of frame,
-/// whatever the codes.
+/// Calls at both ends of 128 columns reach over more than 96. As a record they are out of frame, whatever the codes.
+/// The numbers are those of pack, of S and F, and of the others.
 #[test]
 fn rules_of_packs_fragments() {
     let mut trials = Trials::default();
     let rows = [
-        ("6, 4, 8 and 9", format!("?{}A", "-".repeat(126)), [10, 10], 6, 4),
-        ("4, 8 and 9", format!("A{}B", "-".repeat(126)), [10, 10], 4, 4),
-        ("8 and 9", padded("A-B", 128), [10, 10], 8, 8),
-        ("9", padded("AAB", 128), [10, 10], 9, 9),
-        ("4 and 8", format!("A{}B", "-".repeat(126)), [10, 11], 4, 4),
+        ("6, 4, a hole and 9", mates([('?', 0), ('A', 127)], 128), [10, 10], [6, 4, 4]),
+        ("4, a hole and 9", mates([('A', 0), ('B', 127)], 128), [10, 10], [4, 4, 4]),
+        ("a hole and 9", padded("A-B", 128), [10, 10], [9, 8, 9]),
+        ("9", padded("AAB", 128), [10, 10], [9, 9, 9]),
+        ("4 and a hole", mates([('A', 0), ('B', 127)], 128), [10, 11], [4, 4, 4]),
     ];
-    for (name, letters, tags, of_pack, of_tables) in rows {
+    for (name, letters, tags, [of_pack, of_gapless, of_mates]) in rows {
         let given = Fixture::tagged(&[&padded("A", 128), &letters], &tags);
         trials.run(name, Service::Pack, &given, &Expected::refused(of_pack, 1));
         for service in OF_TABLES {
-            trials.run(name, service, &given, &Expected::refused(of_tables, 1));
+            let number = if service.refuses_holes() { of_gapless } else { of_mates };
+            trials.run(name, service, &given, &Expected::refused(number, 1));
         }
     }
+}
+
+/// A number and a place by S and F, and by the services that take holes.
+type Refusals = [(u8, usize); 2];
+
+fn refusal(service: Service, [of_gapless, of_mates]: Refusals) -> Expected {
+    let (number, place) = if service.refuses_holes() { of_gapless } else { of_mates };
+    Expected::refused(number, place)
 }
 
 /// A later rule of a lower record comes before an earlier rule of a higher one.
 #[test]
 fn records_from_0() {
     let mut trials = Trials::default();
-    let gapped = Fixture::of(&["A-A", "AAA", "AAA"]).edited(1, &[(7, 1)]).edited(2, &[(4, 1)]);
+    let gapped = Fixture::of(&["A-A", "AAA", "AAA"]);
     let open = Fixture::of(&["AAA", "AAA", "AAA"]).edited(1, &[(8, 0b00_01_01)]).edited(2, &[(7, 1)]);
     let twice = Fixture::tagged(&["AAA", "AAA", "AAA"], &[10, 10, 12]).edited(2, &[(4, 1)]);
-    let rows =
-        [("8 at 0, 5 at 1, 4 at 2", gapped, 8, 0), ("7 at 1, 5 at 2", open, 7, 1), ("9 at 1, 4 at 2", twice, 9, 1)];
-    for (name, given, number, place) in &rows {
+    let rows: [(&str, Fixture, Refusals); 5] = [
+        ("8 at 0, 4 at 1", gapped.clone().edited(1, &[(4, 1)]), [(8, 0), (4, 1)]),
+        ("8 at 0, 5 at 1, 4 at 2", gapped.clone().edited(1, &[(7, 1)]).edited(2, &[(4, 1)]), [(8, 0), (5, 1)]),
+        ("8 at 0, 7 at 2", gapped.edited(2, &[(8, 0b01_01_00)]), [(8, 0), (7, 2)]),
+        ("7 at 1, 5 at 2", open, [(7, 1); 2]),
+        ("9 at 1, 4 at 2", twice, [(9, 1); 2]),
+    ];
+    for (name, given, refusals) in &rows {
         for service in OF_TABLES {
-            trials.run(name, service, given, &Expected::refused(*number, *place));
+            trials.run(name, service, given, &refusal(service, *refusals));
         }
     }
 }
@@ -153,17 +188,17 @@ fn records_from_0() {
 #[test]
 fn fragments_from_0() {
     let mut trials = Trials::default();
-    let rows = [
-        ("8 at 0, 6 at 1", ["A-A", "?AA", "AAA"], [10, 11, 12], 8, 0),
-        ("8 at 1, 6 at 2", ["AAA", "A-B", "A?A"], [10, 11, 12], 8, 1),
-        ("9 at 1, 6 at 2", ["AAA", "AAA", "A?A"], [10, 10, 12], 9, 1),
-        ("9 at 1, 8 at 2", ["AAA", "AAA", "A-A"], [10, 10, 12], 9, 1),
-        ("6 at 0, 9 at 1", ["??A", "AAA", "AAA"], [10, 10, 12], 6, 0),
-        ("8 at 0, 9 at 2", ["A-A", "AAA", "AAA"], [10, 11, 11], 8, 0),
+    let rows: [(&str, [&str; 3], [u32; 3], Refusals); 6] = [
+        ("8 at 0, 6 at 1", ["A-A", "?AA", "AAA"], [10, 11, 12], [(8, 0), (6, 1)]),
+        ("8 at 1, 6 at 2", ["AAA", "A-B", "A?A"], [10, 11, 12], [(8, 1), (6, 2)]),
+        ("9 at 1, 6 at 2", ["AAA", "AAA", "A?A"], [10, 10, 12], [(9, 1); 2]),
+        ("9 at 1, 8 at 2", ["AAA", "AAA", "A-A"], [10, 10, 12], [(9, 1); 2]),
+        ("6 at 0, 9 at 1", ["??A", "AAA", "AAA"], [10, 10, 12], [(6, 0); 2]),
+        ("8 at 0, 9 at 2", ["A-A", "AAA", "AAA"], [10, 11, 11], [(8, 0), (9, 2)]),
     ];
-    for (name, fragments, tags, number, place) in rows {
+    for (name, fragments, tags, refusals) in rows {
         for service in SERVICES {
-            trials.run(name, service, &Fixture::tagged(&fragments, &tags), &Expected::refused(number, place));
+            trials.run(name, service, &Fixture::tagged(&fragments, &tags), &refusal(service, refusals));
         }
     }
 }

@@ -4,12 +4,12 @@
 use crate::calls::Service::{Pack, Unpack};
 use crate::calls::Trials;
 use crate::expected::{Each, Expected};
-use crate::fixtures::{lone, padded, Fixture};
+use crate::fixtures::{is_gapped, lone, mates, padded, Fixture};
 
 /// A fragment in letters, its tag, and the bytes of its record up to where the rest are 0.
 type Record = (&'static str, u32, &'static [u8]);
 
-const RECORDS: [Record; 10] = [
+const RECORDS: [Record; 14] = [
     ("", 0, &[]),
     ("---", 7, &[7]),
     ("A", 1, &[1, 0, 0, 0, 0, 0, 1, 0, 0b01]),
@@ -20,6 +20,10 @@ const RECORDS: [Record; 10] = [
     ("-ABBAB-", 0x0403_0201, &[1, 2, 3, 4, 1, 0, 5, 0, 0b01_10_10_01, 0b10]),
     ("---BBBBAAAA", 0xFFFF_FFFF, &[255, 255, 255, 255, 3, 0, 8, 0, 0b10_10_10_10, 0b01_01_01_01]),
     ("------------------------------A", 0x8000_0000, &[0, 0, 0, 128, 30, 0, 1, 0, 0b01]),
+    ("A-A", 5, &[5, 0, 0, 0, 0, 0, 3, 0, 0b01_00_01]),
+    ("-B--A-", 6, &[6, 0, 0, 0, 1, 0, 4, 0, 0b01_00_00_10]),
+    ("AB------BBA", 8, &[8, 0, 0, 0, 0, 0, 11, 0, 0b10_01, 0, 0b01_10_10]),
+    ("--A-B-A----B", 9, &[9, 0, 0, 0, 2, 0, 10, 0, 0b00_10_00_01, 0b01, 0b10_00]),
 ];
 
 #[test]
@@ -30,24 +34,52 @@ fn records_in_bytes() {
         given.table = [bytes, &vec![0; 32 - bytes.len()]].concat();
         let sides = format!("{} {} {} 1 0", "1".repeat(given.n), letters, "-".repeat(given.n));
         let fields = if given.n == 0 { ". . . 1 0".to_owned() } else { sides };
-        trials.run_each(&format!("{letters} alone"), &given, &Each::of_conflict_free(&given, &fields));
+        let each = Each::of_conflict_free(&given, &fields);
+        let expected = if is_gapped(letters) { each.gapped(0) } else { each };
+        trials.run_each(&format!("{letters} alone"), &given, &expected);
     }
 }
 
-/// Tables of many fragments, some of them with calls at the last column, up to 96 of them.
+/// 90 to 96 calls.
+fn long(i: usize) -> String {
+    let (start, span) = (i % 33, 96 - i % 7);
+    let letter = |c: usize| if (start..start + span).contains(&c) { ['A', 'B', 'B'][(c * c + i) % 3] } else { '-' };
+    (0..128).map(letter).collect()
+}
+
+/// One call, or none.
+fn short(i: usize) -> String {
+    if i % 2 == 1 {
+        padded("", 128)
+    } else {
+        lone('B', 127 - i, 128)
+    }
+}
+
+/// Calls at the long fragment's ends alone.
+fn two_calls(i: usize) -> String {
+    mates([('A', i % 33), ('B', i % 33 + 95 - i % 7)], 128)
+}
+
+/// The long fragment with holes on every fourth column and on 40 to 69, but at its ends.
+fn holed(i: usize) -> String {
+    let (start, last) = (i % 33, i % 33 + 95 - i % 7);
+    let hole = |c: usize| c != start && c != last && (c % 4 == 1 || (40..70).contains(&c));
+    long(i).char_indices().map(|(c, letter)| if hole(c) { '-' } else { letter }).collect()
+}
+
+/// Tables of many fragments, some of them with calls at the last column.
 #[test]
 fn tables_both_ways() {
     let mut trials = Trials::default();
-    let slanted = |i: usize| {
-        let (start, span) = (i % 33, 96 - i % 7);
-        let letter = |c: usize| if (start..start + span).contains(&c) { ['A', 'B', 'B'][(c * c + i) % 3] } else { '-' };
-        (0..128).map(letter).collect::<String>()
-    };
-    let last = |i: usize| if i % 2 == 1 { padded("", 128) } else { lone('B', 127 - i, 128) };
-    let full: Vec<String> = (0..128).map(slanted).collect();
-    let thin: Vec<String> = (0..128).map(last).collect();
-    for (name, fragments) in [("128 long fragments", full), ("128 short fragments, half of them without calls", thin)] {
-        let given = Fixture::of(&fragments);
+    let tables: [(&str, fn(usize) -> String); 4] = [
+        ("128 long fragments", long),
+        ("128 short fragments, half of them without calls", short),
+        ("128 fragments of two calls", two_calls),
+        ("128 long fragments with holes", holed),
+    ];
+    for (name, fragment) in tables {
+        let given = Fixture::of(&(0..128).map(fragment).collect::<Vec<String>>());
         trials.run(name, Unpack, &given, &Expected::unpacked(&given));
         trials.run(name, Pack, &given, &Expected::packed(&given));
     }
