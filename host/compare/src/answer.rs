@@ -16,12 +16,12 @@ pub struct Answer {
     pub blocks: Vec<Option<usize>>,
 }
 
-/// Check has no answer where the table is not error-free; C refuses deep columns.
+/// Check has no answer where the table is not error-free; S and F refuse gapped fragments, and C deep columns.
 #[derive(Clone, PartialEq, Eq, Debug)]
 pub struct Answers {
     pub check: Option<Answer>,
-    pub snps: Answer,
-    pub fragments: Answer,
+    pub snps: Result<Answer, Refusal>,
+    pub fragments: Result<Answer, Refusal>,
     pub corrections: Result<Answer, Refusal>,
 }
 

@@ -15,6 +15,8 @@ pub fn table(bytes: &[u8], listing: Option<&Path>, rng: &mut Rng) -> Result<Coun
         let text = expected::text(&outcome);
         listing_says(program, bytes, &text)?;
         counts.add(Seen::Listing, 1);
+        let gapped = ["\nS refused 8 at ", "\nF refused 8 at "].iter().all(|line| text.contains(line));
+        counts.add(Seen::GappedListing, gapped as usize);
         if rng.chance(8) {
             listing_in_pieces_says(program, bytes, &text, rng)?;
             counts.add(Seen::ListingInPieces, 1);

@@ -2,57 +2,73 @@
 //! longer settles anything, fails it. The generator says how many tables a kind has. The rest depends on the seed: at least
 //! half of what is usual is asked for, a quarter of what is below 40, and nothing below 12.
 //!
-//! The listing meets the refusals 1 to 9, and C's 12. It never meets 10 and 11, as it lends itself enough work and
-//! buffers of the right length. Every service meets the refusals that it has: 10 is of those that borrow work, 12 is C's alone,
-//! pack has neither 5 nor 7, as cells have no stray bits and no ends, and find refuses nothing.
+//! The listing meets the refusals 1 to 7 and 9, in the lines of S and F 8, and in C's 12. It never meets 10 and 11, as it lends
+//! itself enough work and buffers of the right length. Every service meets the refusals that it has: 8 is of S and F alone, 10 of
+//! those that borrow work, 12 of C alone, pack has neither 5 nor 7, as cells have no stray bits and no ends, and find refuses
+//! nothing.
 
 use crate::runner::{sum, Tally};
 use crate::seen::{Seen, Verdict};
 use crate::service::Service::{self, Check, ConflictCounts, Corrections, Find, Fragments, Pack, Snps, Unpack};
 use Verdict::{Absent, Accepted, First, No, Only, Refused, Yes};
 
-/// A kind's tables, and the least of them with each verdict: yes, no, refused by C alone, refused by rule 1 to 9.
+/// A kind's tables, and the least of them with each verdict: yes, no, refused by C alone, by S and F alone, and by rule 1 to
+/// 9.
 struct Kind {
     name: &'static str,
     tables: usize,
     yes: usize,
     no: usize,
     too_deep: usize,
+    gapped: usize,
     refused: [usize; 9],
 }
 
 const NONE: [usize; 9] = [0; 9];
 
-const KINDS: [Kind; 25] = [
-    kind("no records", 3, [3, 0, 0], NONE),
-    kind("uniform", 1500, [360, 380, 20], NONE),
-    kind("noisy copies", 2000, [500, 490, 7], NONE),
-    kind("nested", 1000, [280, 210, 20], NONE),
-    kind("single calls", 600, [260, 30, 0], NONE),
-    kind("identical", 400, [190, 3, 7], NONE),
-    kind("without calls", 50, [50, 0, 0], NONE),
-    kind("deep", 300, [35, 110, 115], NONE),
-    kind("up to 12 x 12", 200, [25, 70, 20], NONE),
-    kind("one fault", 1500, [85, 55, 7], [60, 45, 80, 80, 110, 55, 60, 40, 65]),
-    kind("several faults", 1000, [3, 0, 0], [35, 30, 170, 35, 85, 35, 40, 20, 25]),
-    kind("long or ragged", 400, [5, 0, 5], [50, 100, 30, 0, 0, 0, 0, 0, 0]),
-    kind("random fields", 600, [40, 0, 0], [0, 0, 125, 9, 3, 55, 25, 8, 0]),
-    kind("shifted", 300, [40, 105, 5], NONE),
-    kind("few, long", 200, [5, 90, 0], NONE),
-    kind("many, short", 200, [0, 95, 200], NONE),
-    kind("medium, heavy noise", 300, [5, 140, 80], NONE),
-    kind("medium, shallow", 300, [0, 145, 0], NONE),
-    kind("full, error-free", 10, [10, 0, 10], NONE),
-    kind("full, noisy", 60, [0, 30, 60], NONE),
-    kind("full, nested", 60, [0, 30, 60], NONE),
-    kind("full, shallow", 80, [5, 30, 0], NONE),
-    kind("full, blocks", 60, [0, 30, 0], NONE),
-    kind("full, 8 and 9 calls", 20, [0, 10, 2], NONE),
-    kind("full, heavy noise", 20, [0, 20, 20], NONE),
+const KINDS: [Kind; 37] = [
+    kind("no records", 3, [3, 0, 0, 0], NONE),
+    kind("uniform", 1500, [360, 370, 20, 0], NONE),
+    kind("noisy copies", 2000, [500, 490, 7, 0], NONE),
+    kind("nested", 1000, [270, 220, 20, 0], NONE),
+    kind("single calls", 600, [260, 25, 0, 0], NONE),
+    kind("identical", 400, [190, 3, 7, 0], NONE),
+    kind("without calls", 50, [50, 0, 0, 0], NONE),
+    kind("deep", 300, [35, 110, 115, 0], NONE),
+    kind("up to 12 x 12", 200, [25, 70, 20, 0], NONE),
+    kind("mates, uniform", 4800, [1000, 1350, 30, 4800], NONE),
+    kind("mates, noisy copies", 4800, [1400, 950, 30, 4800], NONE),
+    kind("mates, cycles", 1500, [170, 570, 0, 1500], NONE),
+    kind("mates, deep", 800, [30, 360, 320, 800], NONE),
+    kind("mates, 12 x 12", 300, [50, 95, 30, 300], NONE),
+    kind("one fault", 1500, [100, 80, 9, 45], [60, 40, 70, 80, 100, 50, 60, 0, 65]),
+    kind("several faults", 1000, [4, 3, 0, 4], [30, 30, 160, 45, 85, 35, 40, 0, 30]),
+    kind("mates and faults", 800, [30, 20, 0, 50], [5, 4, 85, 30, 85, 35, 40, 0, 35]),
+    kind("long or ragged", 400, [5, 0, 5, 0], [50, 95, 30, 0, 0, 0, 0, 0, 0]),
+    kind("random fields", 600, [45, 0, 0, 4], [0, 0, 130, 20, 5, 55, 20, 0, 0]),
+    kind("shifted", 300, [40, 100, 5, 0], NONE),
+    kind("few, long", 200, [4, 90, 0, 0], NONE),
+    kind("many, short", 200, [0, 95, 200, 0], NONE),
+    kind("medium, heavy noise", 300, [4, 140, 80, 0], NONE),
+    kind("medium, shallow", 300, [0, 145, 0, 0], NONE),
+    kind("medium, mates", 300, [50, 95, 0, 300], NONE),
+    kind("full, error-free", 10, [10, 0, 10, 0], NONE),
+    kind("full, noisy", 60, [0, 30, 60, 0], NONE),
+    kind("full, nested", 60, [0, 30, 60, 0], NONE),
+    kind("full, shallow", 80, [5, 30, 0, 0], NONE),
+    kind("full, blocks", 60, [0, 30, 0, 0], NONE),
+    kind("full, 8 and 9 calls", 20, [0, 10, 2, 0], NONE),
+    kind("full, heavy noise", 20, [0, 20, 20, 0], NONE),
+    kind("full, mates", 40, [4, 5, 40, 40], NONE),
+    kind("full, mates shallow", 60, [3, 20, 0, 60], NONE),
+    kind("full, mates at depth", 80, [3, 30, 20, 80], NONE),
+    kind("full, far mates", 60, [5, 9, 2, 60], NONE),
+    kind("full, mate cycles", 60, [6, 8, 9, 60], NONE),
 ];
 
-const fn kind(name: &'static str, tables: usize, [yes, no, too_deep]: [usize; 3], refused: [usize; 9]) -> Kind {
-    Kind { name, tables, yes, no, too_deep, refused }
+const fn kind(name: &'static str, tables: usize, verdicts: [usize; 4], refused: [usize; 9]) -> Kind {
+    let [yes, no, too_deep, gapped] = verdicts;
+    Kind { name, tables, yes, no, too_deep, gapped, refused }
 }
 
 /// The calls of each service for each table, right and wrong ones.
@@ -75,17 +91,21 @@ struct Replies {
 }
 
 const REPLIES: [Replies; 8] = [
-    replies(Unpack, &[(Accepted, 16000)], [3100, 1500, 16000, 6200, 850, 700, 500, 390, 370, 0, 43000, 0]),
-    replies(Pack, &[(Accepted, 7800)], [44000, 480, 12000, 60, 0, 700, 0, 320, 700, 0, 20000, 0]),
-    replies(Find, &[(Only, 11000), (First, 5500), (Absent, 16000)], [0; 12]),
-    replies(Check, &[(Yes, 7500), (No, 7500)], [2200, 1100, 14000, 6200, 850, 680, 500, 380, 370, 0, 24000, 0]),
-    replies(ConflictCounts, &[(Accepted, 15000)], [2200, 1100, 14000, 6200, 850, 680, 500, 380, 370, 0, 24000, 0]),
-    replies(Snps, &[(Yes, 7500), (No, 7500)], [2900, 1450, 15500, 6200, 850, 680, 500, 380, 370, 17000, 21500, 0]),
-    replies(Fragments, &[(Yes, 7500), (No, 7500)], [2900, 1450, 15500, 6200, 850, 680, 500, 380, 370, 17000, 21500, 0]),
+    replies(Unpack, &[(Accepted, 41500)], [2900, 1700, 30500, 13500, 1250, 850, 740, 0, 560, 0, 100000, 0]),
+    replies(Pack, &[(Accepted, 17500)], [100000, 1000, 27000, 165, 0, 1600, 0, 0, 1700, 0, 46500, 0]),
+    replies(Find, &[(Only, 25000), (First, 12000), (Absent, 36000)], [0; 12]),
+    replies(Check, &[(Yes, 19000), (No, 21500)], [2100, 1250, 28500, 13500, 1250, 840, 730, 0, 550, 0, 57000, 0]),
+    replies(ConflictCounts, &[(Accepted, 41000)], [2100, 1250, 28500, 13500, 1250, 840, 730, 0, 550, 0, 57000, 0]),
+    replies(Snps, &[(Yes, 7500), (No, 7700)], [2700, 1600, 30000, 10500, 1000, 720, 640, 28500, 420, 40000, 51000, 0]),
+    replies(
+        Fragments,
+        &[(Yes, 7500), (No, 7700)],
+        [2700, 1600, 30000, 10500, 1000, 720, 640, 28500, 420, 40000, 51000, 0],
+    ),
     replies(
         Corrections,
-        &[(Yes, 7200), (No, 6300)],
-        [3700, 1900, 17000, 6200, 850, 680, 500, 380, 370, 17000, 41000, 1800],
+        &[(Yes, 18000), (No, 18500)],
+        [3500, 2100, 32000, 13500, 1250, 840, 730, 0, 550, 40000, 97000, 3700],
     ),
 ];
 
@@ -98,31 +118,66 @@ const fn replies(service: Service, accepted: &'static [(Verdict, usize)], refuse
 const CALLED: [(Seen, usize); 12] = [
     (Seen::LongWork(Snps), 11500),
     (Seen::LongWork(Fragments), 11500),
-    (Seen::LongWork(Corrections), 10000),
-    (Seen::CountOver64, 60),
-    (Seen::ConflictsAcross64, 170),
-    (Seen::SharingApart, 1400),
-    (Seen::RemovedApart, 1200),
-    (Seen::CorrectedApart, 380),
-    (Seen::FoundInRagged, 700),
+    (Seen::LongWork(Corrections), 27500),
+    (Seen::CountOver64, 80),
+    (Seen::ConflictsAcross64, 235),
+    (Seen::SharingApart, 1350),
+    (Seen::RemovedApart, 1150),
+    (Seen::CorrectedApart, 1150),
+    (Seen::FoundInRagged, 740),
     (Seen::FoundPastMost, 230),
-    (Seen::TableRoundTrip, 4000),
-    (Seen::CellsRoundTrip, 3700),
+    (Seen::TableRoundTrip, 10500),
+    (Seen::CellsRoundTrip, 8800),
+];
+
+/// What must have been seen of holes between calls, over all kinds. Of tables by every choice 10,000 are asked for, and not
+/// half of what is usual.
+const GAPPED: [(Seen, usize); 10] = [
+    (Seen::GappedByEveryChoice, 10000),
+    (Seen::GappedLarge, 260),
+    (Seen::GappedCorrected(Yes), 2800),
+    (Seen::GappedCorrected(No), 3100),
+    (Seen::GapAlone(Snps), 25000),
+    (Seen::GapAlone(Fragments), 25000),
+    (Seen::GapBeforeFault(Snps), 3500),
+    (Seen::GapBeforeFault(Fragments), 3500),
+    (Seen::GappedTableRoundTrip, 6500),
+    (Seen::GappedCellsRoundTrip, 3900),
+];
+
+/// What small kinds and full ones must have seen of holes that tells definitions apart.
+const OF_MATES: [(&str, Seen, usize); 12] = [
+    ("mates, uniform", Seen::BeyondPairs, 50),
+    ("mates, cycles", Seen::BeyondPairs, 460),
+    ("full, mate cycles", Seen::BeyondPairs, 8),
+    ("mates, deep", Seen::DeepByStretchesAlone, 160),
+    ("full, mates at depth", Seen::DeepByStretchesAlone, 3),
+    ("full, mate cycles", Seen::DeepByStretchesAlone, 8),
+    ("mates, deep", Seen::DeepBelowCalls, 50),
+    ("full, mates", Seen::DeepBelowCalls, 5),
+    ("full, mates at depth", Seen::DeepBelowCalls, 4),
+    ("mates, cycles", Seen::CoversUncalled, 550),
+    ("full, mates at depth", Seen::CoversUncalled, 25),
+    ("full, far mates", Seen::FarthestMates, 60),
 ];
 
 /// What each method must have settled, over all kinds.
-const SETTLED: [(&str, usize); 8] = [
-    ("S by every choice", 3000),
+const SETTLED: [(&str, usize); 11] = [
+    ("check by every choice", 9500),
+    ("check by flooding", 10500),
+    ("S by every choice", 3100),
     ("S by branching", 4000),
     ("S by pairs of columns", 4000),
-    ("F by every choice", 3000),
+    ("F by every choice", 3100),
     ("F by branching", 4000),
     ("F by pairs of haplotypes", 4000),
-    ("C by every choice", 3000),
-    ("C by branching", 3500),
+    ("C by every choice", 8600),
+    ("C by branching", 9500),
+    ("C by open fragments", 9500),
 ];
 
-const LISTINGS_IN_PIECES: usize = 400;
+/// What the listings must have seen.
+const LISTED: [(Seen, usize); 2] = [(Seen::ListingInPieces, 950), (Seen::GappedListing, 6500)];
 
 #[derive(Clone, Copy, Debug)]
 pub enum Number {
@@ -143,7 +198,8 @@ pub fn complete(tallies: &[Tally], with_listing: bool) -> Result<(), String> {
     crate::agree("the kinds of tables", &kind_names(), &names)?;
     let all = sum(tallies);
     for Demand { kind, seen, number } in demands(with_listing) {
-        let tally = tallies.iter().find(|tally| Some(tally.kind) == kind).unwrap_or(&all);
+        let named = |name| tallies.iter().find(|tally| tally.kind == name).ok_or(format!("no kind {name}"));
+        let tally = kind.map_or(Ok(&all), named)?;
         let count = tally.counts.of(seen);
         if !number.is_met(count) {
             return Err(format!("{}: {count} times {seen:?}, expected {number:?}", tally.kind));
@@ -158,11 +214,16 @@ pub fn kind_names() -> Vec<&'static str> {
 
 pub fn demands(with_listing: bool) -> Vec<Demand> {
     let of_kinds = KINDS.iter().flat_map(|kind| kind.demands(with_listing));
+    let of_mates =
+        OF_MATES.map(|(kind, seen, least)| Demand { kind: Some(kind), seen, number: Number::AtLeast(least) });
     let returned = REPLIES.iter().flat_map(Replies::leasts);
     let settled = SETTLED.map(|(name, least)| (Seen::By(name), least));
-    let in_pieces = with_listing.then_some((Seen::ListingInPieces, LISTINGS_IN_PIECES));
-    let of_all = returned.chain(CALLED).chain(settled).chain(in_pieces);
-    of_kinds.chain(of_all.map(|(seen, least)| Demand { kind: None, seen, number: Number::AtLeast(least) })).collect()
+    let listed = LISTED.into_iter().filter(|_| with_listing);
+    let of_all = returned.chain(CALLED).chain(GAPPED).chain(settled).chain(listed);
+    of_kinds
+        .chain(of_mates)
+        .chain(of_all.map(|(seen, least)| Demand { kind: None, seen, number: Number::AtLeast(least) }))
+        .collect()
 }
 
 impl Kind {
@@ -170,7 +231,12 @@ impl Kind {
         let listings = if with_listing { self.tables } else { 0 };
         let calls = CALLS.map(|(service, calls)| (Seen::Call(service), calls * self.tables));
         let exact = [(Seen::Table, self.tables), (Seen::Listing, listings)].into_iter().chain(calls);
-        let verdicts = [(Seen::Listed(Yes), self.yes), (Seen::Listed(No), self.no), (Seen::TooDeep, self.too_deep)];
+        let verdicts = [
+            (Seen::Listed(Yes), self.yes),
+            (Seen::Listed(No), self.no),
+            (Seen::TooDeep, self.too_deep),
+            (Seen::Gapped, self.gapped),
+        ];
         let refused = (1..).zip(self.refused).map(|(rule, least)| (Seen::Listed(Refused(rule)), least));
         let least = verdicts.into_iter().chain(refused).filter(|&(_, least)| least > 0);
         let exact = exact.map(|(seen, count)| (seen, Number::Exactly(count)));

@@ -7,28 +7,30 @@ use crate::rules::Refusal;
 /// The listing program reads no byte beyond these.
 pub const MOST_BYTES: usize = 4128;
 
+/// The one line of a table that is refused as a whole.
 pub fn refused(refusal: Refusal) -> String {
-    format!("refused {} at {}\n", refusal.number, refusal.place)
+    refusal_fields(&refusal) + "\n"
 }
 
 pub fn accepted(matrix: &Matrix, answers: &Answers) -> String {
     let verdict = if answers.check.is_some() { "yes" } else { "no" };
-    let corrections = match &answers.corrections {
-        Ok(answer) => fields(answer),
-        Err(refusal) => format!("refused {} at {}", refusal.number, refusal.place),
-    };
+    let least = |answer: &Result<Answer, Refusal>| answer.as_ref().map_or_else(refusal_fields, answer_fields);
     format!(
         "fragments {} snps {}\nerror-free {}\nS {}\nF {}\nC {}\n",
         matrix.m(),
         matrix.n,
         verdict,
-        fields(&answers.snps),
-        fields(&answers.fragments),
-        corrections
+        least(&answers.snps),
+        least(&answers.fragments),
+        least(&answers.corrections)
     )
 }
 
-fn fields(answer: &Answer) -> String {
+fn refusal_fields(refusal: &Refusal) -> String {
+    format!("refused {} at {}", refusal.number, refusal.place)
+}
+
+fn answer_fields(answer: &Answer) -> String {
     let marks: String = answer.keep.iter().map(|&kept| if kept { '1' } else { '0' }).collect();
     let sides: String = answer.sides.iter().map(|side| side.to_string()).collect();
     let block = |block: &Option<usize>| block.map_or("-".to_string(), |lowest| lowest.to_string());

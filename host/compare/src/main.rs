@@ -13,6 +13,7 @@ mod counts;
 mod coverage;
 mod exact;
 mod expected;
+mod gaps;
 mod generate;
 mod guarded;
 mod library;
@@ -96,13 +97,13 @@ fn run(seed: u64, listing: Option<&Path>) -> Result<(), String> {
 
 /// What was compared, each part with its number.
 fn compared(all: &Counts) -> String {
-    let [tables, listings, in_pieces] =
-        [Seen::Table, Seen::Listing, Seen::ListingInPieces].map(|seen| grouped(all.of(seen)));
+    let [tables, gapped, listings, in_pieces] =
+        [Seen::Table, Seen::Gapped, Seen::Listing, Seen::ListingInPieces].map(|seen| grouped(all.of(seen)));
     let calls = Service::ALL.map(|service| format!("{} {}", service.name(), grouped(all.of(Seen::Call(service)))));
     let round_trips = grouped(all.of(Seen::TableRoundTrip) + all.of(Seen::CellsRoundTrip));
     format!(
-        "{tables} tables, none skipped: {listings} listings ({in_pieces} more in pieces), calls as expected: {}, \
-         round trips {round_trips}",
+        "{tables} tables ({gapped} gapped), none skipped: {listings} listings ({in_pieces} more in pieces), \
+         calls as expected: {}, round trips {round_trips}",
         calls.join(", ")
     )
 }

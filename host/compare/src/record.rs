@@ -40,23 +40,28 @@ pub fn set_start(record: &mut [u8], start: u16) {
     record[4..6].copy_from_slice(&start.to_le_bytes());
 }
 
-/// The record of a fragment whose calls stand from column `start` on.
-pub fn record(tag: u32, start: usize, calls: &[u8]) -> [u8; RECORD] {
+/// The record of a fragment with these cells from column `start` on.
+pub fn record(tag: u32, start: usize, cells: &[u8]) -> [u8; RECORD] {
     let mut record = [0; RECORD];
     set_tag(&mut record, tag);
     set_start(&mut record, start as u16);
-    record[6] = calls.len() as u8;
-    for (i, &code) in calls.iter().enumerate() {
+    record[6] = cells.len() as u8;
+    for (i, &code) in cells.iter().enumerate() {
         set_cell(&mut record, i, code);
     }
     record
 }
 
 /// The columns from a row's first call to its last.
-pub fn called(row: &[u8]) -> Range<usize> {
+pub fn stretch(row: &[u8]) -> Range<usize> {
     let first = row.iter().position(|&code| code != HOLE).unwrap_or(0);
     let end = row.iter().rposition(|&code| code != HOLE).map_or(0, |last| last + 1);
     first..end
+}
+
+/// Has a row a hole between two calls?
+pub fn is_gapped(row: &[u8]) -> bool {
+    row[stretch(row)].contains(&HOLE)
 }
 
 pub fn whole_records(table: &[u8]) -> impl Iterator<Item = &[u8]> {
@@ -94,9 +99,19 @@ impl Matrix {
         self.rows.len()
     }
 
-    /// The fragments that call column c, as their number.
-    pub fn depth(&self, c: usize) -> usize {
+    pub fn is_gapped(&self) -> bool {
+        self.rows.iter().any(|row| is_gapped(row))
+    }
+
+    /// The number of fragments that call column c.
+    pub fn calls(&self, c: usize) -> usize {
         self.rows.iter().filter(|row| row[c] != HOLE).count()
+    }
+
+    /// The number of fragments whose stretch covers column c: a call stands at or before it, and one at or after it.
+    pub fn depth(&self, c: usize) -> usize {
+        let has_call = |cells: &[u8]| cells.iter().any(|&code| code != HOLE);
+        self.rows.iter().filter(|row| has_call(&row[..=c]) && has_call(&row[c..])).count()
     }
 }
 

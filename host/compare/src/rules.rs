@@ -1,11 +1,12 @@
-//! The refusals of paper 01, in its order, straight from the bytes.
+//! The refusals of paper 01, with the mate pairs of paper 02's T-01, in their order and straight from the bytes.
 
-use crate::record::{called, cell, span, start, tag, whole_records, Matrix, A, B, CELLS, HOLE, RECORD};
-use crate::service::Buffer;
+use crate::record::{cell, is_gapped, span, start, stretch, tag, whole_records, Matrix, A, B, CELLS, HOLE, RECORD};
+use crate::service::{Buffer, Service};
 
 pub const MOST_FRAGMENTS: usize = 128;
 pub const MOST_COLUMNS: usize = 128;
-pub const MOST_CALLS_OF_A_COLUMN: usize = 8;
+/// The most fragments whose stretches cover one column.
+pub const MOST_DEPTH: usize = 8;
 pub const LEAST_WORK: usize = 32768;
 
 #[derive(Clone, Copy, PartialEq, Eq, Debug)]
@@ -14,19 +15,19 @@ pub struct Refusal {
     pub place: usize,
 }
 
-/// The first fault that the listing prints for the whole table: 3, 1, 2, and then the records by 4 to 9.
+/// The first fault that the listing prints for the whole table, which is check's.
 pub fn table_fault(n: usize, table: &[u8]) -> Option<Refusal> {
-    size_fault(n, table).or_else(|| records_fault(n, table))
+    call_fault(Service::Check, n, table, &[])
 }
 
-/// The first fault of a call on a table, but for C's own. What it lends, each buffer with its length, is tested between
-/// the sizes and the records.
-pub fn call_fault(n: usize, table: &[u8], lent: &[(Buffer, usize)]) -> Option<Refusal> {
+/// The first fault of a call on a table, but for C's own: 3, 1, 2, and then the records by 4 to 7 and 9, for S and F by 8
+/// before 9. What it lends, each buffer with its length, is tested between the sizes and the records.
+pub fn call_fault(service: Service, n: usize, table: &[u8], lent: &[(Buffer, usize)]) -> Option<Refusal> {
     let m = table.len() / RECORD;
-    size_fault(n, table).or_else(|| lent_fault(n, m, lent)).or_else(|| records_fault(n, table))
+    size_fault(n, table).or_else(|| lent_fault(n, m, lent)).or_else(|| records_fault(service, n, table))
 }
 
-/// The first fault of a call of pack: 3, 1, 2, 11, and then the fragments by 6, 4, 8, 9.
+/// The first fault of a call of pack: 3, 1, 2, 11, and then the fragments by 6, 4, 9.
 pub fn pack_fault(n: usize, cells: &[u8], tags: &[u32], table_length: usize) -> Option<Refusal> {
     let m = tags.len();
     first_broken(&[(3, n > MOST_COLUMNS)])
@@ -38,9 +39,14 @@ pub fn pack_fault(n: usize, cells: &[u8], tags: &[u32], table_length: usize) -> 
         })
 }
 
-/// C's own fault: over 8 calls in a column, the lowest such column.
+/// S's and F's own fault in a table that check takes: the first fragment with a hole between two calls.
+pub fn gapped(matrix: &Matrix) -> Option<Refusal> {
+    matrix.rows.iter().position(|row| is_gapped(row)).map(|place| Refusal { number: 8, place })
+}
+
+/// C's own fault: the stretches of over 8 fragments cover a column, the lowest such column.
 pub fn too_deep(matrix: &Matrix) -> Option<Refusal> {
-    (0..matrix.n).find(|&c| matrix.depth(c) > MOST_CALLS_OF_A_COLUMN).map(|place| Refusal { number: 12, place })
+    (0..matrix.n).find(|&c| matrix.depth(c) > MOST_DEPTH).map(|place| Refusal { number: 12, place })
 }
 
 fn size_fault(n: usize, table: &[u8]) -> Option<Refusal> {
@@ -62,22 +68,21 @@ fn first_broken(rules: &[(usize, bool)]) -> Option<Refusal> {
 }
 
 fn fragment_fault(row: &[u8], tags: &[u32], place: usize) -> Option<usize> {
-    let called = called(row);
     let broken = [
         (6, row.iter().any(|&code| code > B)),
-        (4, called.len() > CELLS),
-        (8, row[called].contains(&HOLE)),
+        (4, stretch(row).len() > CELLS),
         (9, tags[..place].contains(&tags[place])),
     ];
     broken.iter().find(|rule| rule.1).map(|rule| rule.0)
 }
 
-fn records_fault(n: usize, table: &[u8]) -> Option<Refusal> {
+fn records_fault(service: Service, n: usize, table: &[u8]) -> Option<Refusal> {
     let records: Vec<&[u8]> = whole_records(table).collect();
-    (0..records.len()).find_map(|place| record_fault(n, &records, place).map(|number| Refusal { number, place }))
+    let fault = |place: usize| record_fault(service, n, &records, place).map(|number| Refusal { number, place });
+    (0..records.len()).find_map(fault)
 }
 
-fn record_fault(n: usize, records: &[&[u8]], place: usize) -> Option<usize> {
+fn record_fault(service: Service, n: usize, records: &[&[u8]], place: usize) -> Option<usize> {
     let record = records[place];
     if out_of_frame(n, record) {
         Some(4)
@@ -87,7 +92,7 @@ fn record_fault(n: usize, records: &[&[u8]], place: usize) -> Option<usize> {
         Some(6)
     } else if open_end(record) {
         Some(7)
-    } else if gapped(record) {
+    } else if !service.takes_holes() && hole_between_calls(record) {
         Some(8)
     } else if records[..place].iter().any(|earlier| tag(earlier) == tag(record)) {
         Some(9)
@@ -109,7 +114,7 @@ fn open_end(record: &[u8]) -> bool {
     span > 0 && (cell(record, 0) == HOLE || cell(record, span - 1) == HOLE)
 }
 
-fn gapped(record: &[u8]) -> bool {
+fn hole_between_calls(record: &[u8]) -> bool {
     let is_call = |i: &usize| matches!(cell(record, *i), A | B);
     let calls: Vec<usize> = (0..span(record)).filter(is_call).collect();
     match (calls.first(), calls.last()) {

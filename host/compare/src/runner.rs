@@ -3,7 +3,7 @@
 use crate::compare;
 use crate::generate::{kinds, Kind};
 use crate::listing::{hexadecimal, rows, MOST_BYTES};
-use crate::methods::{self, SNPS};
+use crate::methods::{self, CHECK};
 use crate::record::{column_count, Matrix};
 use crate::rng::Rng;
 use crate::rules::table_fault;
@@ -122,22 +122,46 @@ fn shown(bytes: &[u8]) -> String {
 }
 
 fn print_tallies(tallies: &[Tally]) {
-    let heads = ["tables", "yes", "no", "C deep", "choices", "seconds"].map(|head| format!("{head:>8}"));
+    let heads = ["tables", "yes", "no", "gapped", "C deep", "choices", "seconds"].map(|head| format!("{head:>8}"));
     println!("{:<20} {}  refused by rule:tables", "kind", heads.join(" "));
     tallies.iter().for_each(print_tally);
     let all = sum(tallies);
     print_tally(&all);
     Service::ALL.iter().for_each(|&service| println!("{}: {}", service.name(), returned(&all.counts, service)));
     let [tables, cells] = [Seen::TableRoundTrip, Seen::CellsRoundTrip].map(|seen| all.counts.of(seen));
-    println!("round trips: tables {tables}, cells {cells}");
+    let gapped = [Seen::GappedTableRoundTrip, Seen::GappedCellsRoundTrip].map(|seen| all.counts.of(seen));
+    println!("round trips: tables {tables}, gapped {}; cells {cells}, gapped {}", gapped[0], gapped[1]);
     let [over, across] = [Seen::CountOver64, Seen::ConflictsAcross64].map(|seen| all.counts.of(seen));
     println!("two fragments conflict on over 64 columns: tables {over}; on columns below 64 and from 64 on: {across}");
     let apart = [Seen::SharingApart, Seen::RemovedApart, Seen::CorrectedApart];
     let [sharing, removed, corrected] = apart.map(|seen| all.counts.of(seen));
     println!("two fragments in two blocks share a kept column: tables {sharing}; conflict on a removed one: {removed}");
     println!("two fragments in two blocks conflicted before correction: tables {corrected}");
-    let settled = methods::all().map(|method| format!("{} {}", method.name, all.counts.of(Seen::By(method.name))));
+    print_gapped(&all.counts);
+    let settled = methods::names().into_iter().map(|name| format!("{name} {}", all.counts.of(Seen::By(name))));
     println!("settled: {}", settled.collect::<Vec<_>>().join(", "));
+}
+
+/// What was seen of tables with holes between calls.
+fn print_gapped(counts: &Counts) {
+    let named = [
+        ("listings", Seen::GappedListing),
+        ("not error-free, though every two columns are", Seen::BeyondPairs),
+        ("12 by stretches alone", Seen::DeepByStretchesAlone),
+        ("12 at a lower column than by calls", Seen::DeepBelowCalls),
+        ("C corrects nothing", Seen::GappedCorrected(Verdict::Yes)),
+        ("C corrects", Seen::GappedCorrected(Verdict::No)),
+        ("check and C by every choice", Seen::GappedByEveryChoice),
+        ("C without every choice", Seen::GappedLarge),
+        ("a covered column without calls", Seen::CoversUncalled),
+        ("two calls on 96 columns", Seen::FarthestMates),
+    ];
+    let shown = named.map(|(name, seen)| format!("{name} {}", counts.of(seen)));
+    println!("gapped tables: {}", shown.join("; "));
+    for service in [Service::Snps, Service::Fragments] {
+        let [alone, before] = [Seen::GapAlone(service), Seen::GapBeforeFault(service)].map(|seen| counts.of(seen));
+        println!("{} refuses by 8 where check accepts: calls {alone}; where check refuses: {before}", service.name());
+    }
 }
 
 /// What the calls of a service returned, and how often.
@@ -159,7 +183,7 @@ fn returned(counts: &Counts, service: Service) -> String {
 
 fn print_tally(tally: &Tally) {
     let yes_no = [Verdict::Yes, Verdict::No].map(Seen::Listed);
-    let columns = [Seen::Table, yes_no[0], yes_no[1], Seen::TooDeep, Seen::By(SNPS[0].name)];
+    let columns = [Seen::Table, yes_no[0], yes_no[1], Seen::Gapped, Seen::TooDeep, Seen::By(CHECK[0].name)];
     let numbers = columns.map(|seen| format!("{:>8}", tally.counts.of(seen))).join(" ");
     let refusals = tally.counts.refusals(Seen::Listed);
     println!("{}", format!("{:<20} {numbers} {:>8.1}  {refusals}", tally.kind, tally.time.as_secs_f64()).trim_end());

@@ -1,7 +1,9 @@
 //! What a run has seen, counted.
 
 use crate::counts;
-use crate::expected::Outcome;
+use crate::expected::{Accepted, Outcome};
+use crate::gaps;
+use crate::methods::{CHECK, CORRECTIONS};
 use crate::service::Service;
 use std::collections::BTreeMap;
 
@@ -12,6 +14,24 @@ pub enum Seen {
     Listed(Verdict),
     /// C's refusal, 12
     TooDeep,
+    /// a gapped table that check takes: S's and F's refusal, 8
+    Gapped,
+    /// 12 for stretches that cover a column, where no column has over 8 calls
+    DeepByStretchesAlone,
+    /// 12 for stretches at a lower column than the first with over 8 calls
+    DeepBelowCalls,
+    /// a gapped table that is not error-free, though it is on every two columns by themselves
+    BeyondPairs,
+    /// C's answer to a gapped table
+    GappedCorrected(Verdict),
+    /// a gapped table that check and C settle by every choice
+    GappedByEveryChoice,
+    /// C's answer to a gapped table that is too large for every choice
+    GappedLarge,
+    /// a gapped table with a column that a stretch covers and no fragment calls
+    CoversUncalled,
+    /// a table with a fragment of two calls on 96 columns
+    FarthestMates,
     /// a table with two fragments that conflict on over 64 columns
     CountOver64,
     /// a table with two fragments that conflict on columns below 64 and on columns from 64 on
@@ -26,8 +46,14 @@ pub enum Seen {
     By(&'static str),
     Listing,
     ListingInPieces,
+    /// a listing with refusal 8 in the lines of S and F
+    GappedListing,
     Call(Service),
     Returned(Service, Verdict),
+    /// S's or F's refusal 8 where check accepts
+    GapAlone(Service),
+    /// S's or F's refusal 8 where check refuses the same record by 9, or a later one
+    GapBeforeFault(Service),
     /// an acceptance with more work than the least
     LongWork(Service),
     /// a record that find hands back of a table with a part of a record at its end
@@ -38,6 +64,9 @@ pub enum Seen {
     TableRoundTrip,
     /// cells and tags packed and unpacked again
     CellsRoundTrip,
+    /// the same with holes between calls
+    GappedTableRoundTrip,
+    GappedCellsRoundTrip,
 }
 
 #[derive(Clone, Copy, PartialEq, Eq, PartialOrd, Ord, Debug)]
@@ -80,15 +109,53 @@ impl Counts {
         self.add(Seen::Table, 1);
         self.add(Seen::Listed(verdict(outcome)), 1);
         if let Outcome::Accepted(table) = outcome {
-            self.add(Seen::TooDeep, table.answers.corrections.is_err() as usize);
-            self.add(Seen::CountOver64, counts::over_64(&table.matrix) as usize);
-            self.add(Seen::ConflictsAcross64, counts::across_64(&table.matrix) as usize);
-            self.add(Seen::SharingApart, counts::sharing_apart(&table.matrix, &table.answers.snps) as usize);
-            self.add(Seen::RemovedApart, counts::conflicting_apart(&table.matrix, &table.answers.snps) as usize);
-            let corrected = table.answers.corrections.as_ref();
-            let apart = corrected.is_ok_and(|answer| counts::conflicting_apart(&table.matrix, answer));
-            self.add(Seen::CorrectedApart, apart as usize);
+            self.add_blocks(table);
+            self.add_depth(table);
+            if table.matrix.is_gapped() {
+                self.add_gapped(table);
+            }
             table.by.iter().for_each(|name| self.add(Seen::By(name), 1));
+        }
+    }
+
+    fn add_if(&mut self, seen: Seen, holds: bool) {
+        self.add(seen, holds as usize);
+    }
+
+    /// Of conflicts and blocks.
+    fn add_blocks(&mut self, Accepted { matrix, answers, .. }: &Accepted) {
+        self.add_if(Seen::CountOver64, counts::over_64(matrix));
+        self.add_if(Seen::ConflictsAcross64, counts::across_64(matrix));
+        if let Ok(snps) = &answers.snps {
+            self.add_if(Seen::SharingApart, counts::sharing_apart(matrix, snps));
+            self.add_if(Seen::RemovedApart, counts::conflicting_apart(matrix, snps));
+        }
+        if let Ok(corrections) = &answers.corrections {
+            self.add_if(Seen::CorrectedApart, counts::conflicting_apart(matrix, corrections));
+        }
+    }
+
+    /// Of rule 12.
+    fn add_depth(&mut self, Accepted { matrix, answers, .. }: &Accepted) {
+        if let Err(refusal) = answers.corrections {
+            let by_calls = gaps::deep_by_calls(matrix);
+            self.add(Seen::TooDeep, 1);
+            self.add_if(Seen::DeepByStretchesAlone, by_calls.is_none());
+            self.add_if(Seen::DeepBelowCalls, by_calls.is_some_and(|column| column != refusal.place));
+        }
+    }
+
+    /// Of a table with holes between calls.
+    fn add_gapped(&mut self, Accepted { matrix, answers, by }: &Accepted) {
+        self.add(Seen::Gapped, 1);
+        self.add_if(Seen::BeyondPairs, answers.check.is_none() && gaps::error_free_by_pairs(matrix));
+        self.add_if(Seen::CoversUncalled, gaps::covers_uncalled(matrix));
+        self.add_if(Seen::FarthestMates, gaps::farthest_mates(matrix));
+        if let Ok(corrections) = &answers.corrections {
+            let verdict = if corrections.count == 0 { Verdict::Yes } else { Verdict::No };
+            let every_choice = [CHECK[0].name, CORRECTIONS[0].name].iter().all(|name| by.contains(name));
+            self.add(Seen::GappedCorrected(verdict), 1);
+            self.add(if every_choice { Seen::GappedByEveryChoice } else { Seen::GappedLarge }, 1);
         }
     }
 

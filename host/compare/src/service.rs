@@ -75,6 +75,11 @@ impl Service {
         matches!(self, Service::Snps | Service::Fragments | Service::Corrections)
     }
 
+    /// Does it take fragments with a hole between two calls? The others refuse them by rule 8.
+    pub fn takes_holes(self) -> bool {
+        !matches!(self, Service::Snps | Service::Fragments)
+    }
+
     /// All that it is lent.
     pub fn buffers(self) -> Vec<Buffer> {
         let work: &[Buffer] = if self.borrows_work() { &[Work] } else { &[] };

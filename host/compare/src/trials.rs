@@ -1,13 +1,14 @@
-//! Paper 01's trials, for every method, and the counts of conflicts.
+//! Paper 01's trials, for every method, with the mate pairs of paper 02's T-01, and the counts of conflicts.
 
 use crate::answer::Answers;
 use crate::counts::{across_64, conflict_counts, conflicting_apart, over_64, sharing_apart};
-use crate::record::{called, column_count, places_of, record, Matrix, RECORD};
+use crate::record::{column_count, places_of, record, stretch, Matrix, RECORD};
 use crate::rng::Rng;
-use crate::rules::{call_fault, pack_fault, table_fault, too_deep, Refusal};
-use crate::self_test::{printed_table, PRINTED_LISTING};
+use crate::rules::{call_fault, gapped, pack_fault, table_fault, too_deep, Refusal};
+use crate::self_test::{gapped_triangle, printed_table, PRINTED_LISTING, TRIANGLE_LISTING};
 use crate::service::Buffer::{Answer, Corrected, Counts, Work};
-use crate::{brute, generate, listing, methods};
+use crate::service::Service::{Check, ConflictCounts, Corrections, Fragments, Snps, Unpack};
+use crate::{brute, gaps, generate, listing, methods};
 
 /// A table of fragments as the paper writes them, one letter to a column.
 fn table(fragments: &[&str]) -> Vec<u8> {
@@ -21,14 +22,20 @@ fn fragment_record(tag: u32, fragment: &str) -> [u8; RECORD] {
     record(tag, start, &calls)
 }
 
-/// The answers of every method, which must agree.
-fn answers(fragments: &[&str]) -> (Matrix, Answers) {
+fn matrix(fragments: &[&str]) -> Matrix {
     let bytes = table(fragments);
     let n = fragments.first().map_or(0, |fragment| fragment.len());
     assert_eq!(table_fault(n, &bytes), None);
-    let matrix = Matrix::read(&bytes, n);
+    Matrix::read(&bytes, n)
+}
+
+/// The answers of every method, which must agree; none of S or F has one for a gapped table.
+fn answers(fragments: &[&str]) -> (Matrix, Answers) {
+    let matrix = matrix(fragments);
     let (answers, by) = methods::answers(&matrix).expect("the methods agree");
-    assert_eq!(by, methods::all().map(|method| method.name).collect::<Vec<_>>(), "each settles a small table");
+    let mut names = methods::names();
+    names.retain(|name| !matrix.is_gapped() || !name.starts_with(['S', 'F']));
+    assert_eq!(by, names, "each settles a small table");
     (matrix, answers)
 }
 
@@ -72,16 +79,18 @@ fn aa_and_aa() {
 fn aa_ab_ba() {
     let (_, answers) = answers(&["AA", "AB", "BA"]);
     assert_eq!(answers.check, None);
-    assert_eq!((answers.snps.count, answers.snps.keep), (1, vec![true, false]));
-    assert_eq!(answers.snps.sides, [1, 1, 2]);
+    let snps = answers.snps.expect("gapless");
+    assert_eq!((snps.count, snps.keep), (1, vec![true, false]));
+    assert_eq!(snps.sides, [1, 1, 2]);
     assert_eq!(answers.corrections.expect("shallow").count, 1);
 }
 
 #[test]
 fn aa_ab_ba_bb() {
     let (matrix, answers) = answers(&["AA", "AB", "BA", "BB"]);
-    assert_eq!(answers.snps.count, 1);
-    assert_eq!((answers.fragments.count, answers.fragments.sides), (2, vec![1, 2, 0, 0]));
+    let fragments = answers.fragments.expect("gapless");
+    assert_eq!(answers.snps.expect("gapless").count, 1);
+    assert_eq!((fragments.count, fragments.sides), (2, vec![1, 2, 0, 0]));
     let corrections = answers.corrections.expect("shallow");
     assert_eq!((corrections.count, &corrections.sides), (2, &vec![1, 1, 1, 2]));
     assert_eq!(corrections.haplotypes, [[1, 1], [2, 2]]);
@@ -91,8 +100,8 @@ fn aa_ab_ba_bb() {
 #[test]
 fn conflicts_that_are_removed_or_corrected_join_no_blocks() {
     let (_, answers) = answers(&["AA-", "AB-", "BAA", "-AA"]);
-    assert_eq!(answers.snps.blocks, [Some(0), Some(0), Some(0), Some(3)]);
-    assert_eq!(answers.fragments.blocks, [Some(0), Some(0), None, Some(0)]);
+    assert_eq!(answers.snps.expect("gapless").blocks, [Some(0), Some(0), Some(0), Some(3)]);
+    assert_eq!(answers.fragments.expect("gapless").blocks, [Some(0), Some(0), None, Some(0)]);
     assert_eq!(answers.corrections.expect("shallow").blocks, [Some(0), Some(0), Some(0), Some(3)]);
 }
 
@@ -101,7 +110,7 @@ fn conflicts_that_are_removed_or_corrected_join_no_blocks() {
 fn fragments_in_two_blocks() {
     let found = |rows: &[&str]| {
         let (matrix, answers) = answers(rows);
-        let (snps, corrections) = (answers.snps, answers.corrections.expect("shallow"));
+        let (snps, corrections) = (answers.snps.expect("gapless"), answers.corrections.expect("shallow"));
         let [removed, corrected] = [&snps, &corrections].map(|answer| conflicting_apart(&matrix, answer));
         (sharing_apart(&matrix, &snps), removed, corrected)
     };
@@ -112,9 +121,76 @@ fn fragments_in_two_blocks() {
 }
 
 #[test]
-fn a_gap_is_refused() {
-    let bytes = table(&["AB-", "-AB", "B-A"]);
-    assert_eq!(table_fault(column_count(&bytes), &bytes), refusal(8, 2));
+fn the_gapped_triangle() {
+    let bytes = gapped_triangle();
+    assert_eq!(bytes[64..73], [12, 0, 0, 0, 0, 0, 3, 0, 0x12]);
+    let fault = |service| call_fault(service, 3, &bytes, &[]);
+    assert_eq!([Snps, Fragments].map(fault), [refusal(8, 2); 2]);
+    assert_eq!([Unpack, Check, ConflictCounts, Corrections].map(fault), [None; 4]);
+    let (matrix, answers) = answers(&["AB-", "-AB", "B-A"]);
+    assert_eq!(matrix.rows, Matrix::read(&bytes, 3).rows);
+    assert_eq!(listing::accepted(&matrix, &answers), TRIANGLE_LISTING);
+    let corrected = brute::corrected(&matrix, &answers.corrections.expect("shallow").sides);
+    assert_eq!(corrected.rows, [[1, 1, 0], [0, 1, 2], [2, 0, 1]]);
+}
+
+/// By hand: a far mate parts two fragments, joins two blocks, and is corrected.
+#[test]
+fn far_mates() {
+    let head = |m: usize| format!("fragments {m} snps 3\nerror-free yes\nS refused 8 at 0\nF refused 8 at 0\n");
+    assert_eq!(text(&["A-A", "A-B"]), head(2) + "C 0 111 A-A A-B 12 0,0\n");
+    assert_eq!(text(&["A-A", "B--", "--B"]), head(3) + "C 0 111 A-A B-B 122 0,0,0\n");
+    let (matrix, answers) = answers(&["A-A", "AAA", "A-B", "BBA", "BBB"]);
+    assert_eq!(answers.check, None);
+    let corrections = answers.corrections.expect("shallow");
+    assert_eq!((corrections.count, &corrections.sides), (2, &vec![1, 1, 1, 2, 2]));
+    let corrected = brute::corrected(&matrix, &corrections.sides);
+    assert_eq!(corrected.rows, [[1, 0, 1], [1, 1, 1], [1, 0, 1], [2, 2, 1], [2, 2, 1]]);
+}
+
+/// Rule 8 stands between 7 and 9 in the lists of S and F, and in no other list.
+#[test]
+fn a_gap_among_other_faults() {
+    let fault = |n: usize, records: &[[u8; RECORD]]| {
+        let [check, snps] = [Check, Snps].map(|service| call_fault(service, n, &records.concat(), &[]));
+        (check, snps)
+    };
+    let (gapped, far) = (record(1, 0, &[1, 0, 2]), record(2, 2, &[1, 1]));
+    assert_eq!(fault(3, &[gapped, far]), (refusal(4, 1), refusal(8, 0)));
+    assert_eq!(fault(3, &[far, gapped]), (refusal(4, 0), refusal(4, 0)));
+    assert_eq!(fault(2, &[gapped]), (refusal(4, 0), refusal(4, 0)));
+    assert_eq!(fault(3, &[record(1, 0, &[1]), gapped]), (refusal(9, 1), refusal(8, 1)));
+    assert_eq!(fault(3, &[record(1, 0, &[1, 0, 0, 2, 0])]), (refusal(4, 0), refusal(4, 0)));
+    assert_eq!(fault(5, &[record(1, 0, &[1, 0, 0, 2, 0])]), (refusal(7, 0), refusal(7, 0)));
+    assert_eq!(fault(5, &[record(1, 0, &[1, 0, 3, 2])]), (refusal(6, 0), refusal(6, 0)));
+}
+
+#[test]
+fn judged_by_pairs_of_columns() {
+    let judged = |fragments: &[&str]| {
+        let matrix = matrix(fragments);
+        (gaps::error_free_by_pairs(&matrix), brute::check(&matrix).is_some())
+    };
+    assert_eq!(judged(&["AB-", "-AB", "B-A"]), (true, false));
+    assert_eq!(judged(&["AB--", "-AB-", "--AB", "B--A"]), (true, true));
+    assert_eq!(judged(&["AA-", "BAA", "-BB"]), (false, false));
+    assert_eq!(judged(&["A-A", "A-B", "B-A"]), (false, false));
+}
+
+/// What a run must have seen of holes.
+#[test]
+fn columns_that_no_one_calls_and_the_farthest_mates() {
+    let found = |fragments: &[&str]| {
+        let matrix = matrix(fragments);
+        (gaps::covers_uncalled(&matrix), gaps::farthest_mates(&matrix))
+    };
+    assert_eq!(found(&["A-A", "B-B"]), (true, false));
+    assert_eq!(found(&["A-A", "-B-"]), (false, false));
+    assert_eq!(found(&["A--", "--A"]), (false, false));
+    let mates = |between: &str, holes: usize| format!("A{between}{}B", "-".repeat(holes));
+    assert_eq!(found(&[&mates("", 94)]), (true, true));
+    assert_eq!(found(&[&mates("", 93)]), (true, false));
+    assert_eq!(found(&[&mates("A", 93)]), (true, false));
 }
 
 #[test]
@@ -127,7 +203,7 @@ fn a_column_that_no_one_calls() {
 #[test]
 fn start_and_span_within_the_columns() {
     let bytes = table(&["-AB"]);
-    let answered = |n: usize, length: usize| call_fault(n, &bytes, &[(Answer, length)]);
+    let answered = |n: usize, length: usize| call_fault(Check, n, &bytes, &[(Answer, length)]);
     assert_eq!(answered(3, 11), None);
     assert_eq!(answered(2, 8), refusal(4, 0));
     assert_eq!(answered(3, 10), refusal(11, 0));
@@ -152,25 +228,42 @@ fn eight_calls_of_a_column_and_nine() {
     let rows = |count: usize| Matrix { n: 2, rows: vec![vec![0, 1]; count] };
     assert_eq!(too_deep(&rows(8)), None);
     assert_eq!(too_deep(&rows(9)), refusal(12, 1));
+    assert_eq!(gaps::deep_by_calls(&rows(8)), None);
+    assert_eq!(gaps::deep_by_calls(&rows(9)), Some(1));
+}
+
+#[test]
+fn eight_stretches_over_a_column_and_nine() {
+    let found = |counts: &[(usize, &str)]| {
+        let fragments: Vec<&str> = counts.iter().flat_map(|&(count, fragment)| vec![fragment; count]).collect();
+        let matrix = matrix(&fragments);
+        (too_deep(&matrix), gaps::deep_by_calls(&matrix))
+    };
+    assert_eq!(found(&[(5, "A-A-"), (3, "-A-A")]), (None, None));
+    assert_eq!(found(&[(5, "A-A-"), (4, "-A-A")]), (refusal(12, 1), None));
+    assert_eq!(found(&[(5, "A-A"), (4, "-AA")]), (refusal(12, 1), Some(2)));
+    assert_eq!(found(&[(8, "A-A"), (9, "---")]), (None, None));
+    assert_eq!(found(&[(8, "A-A"), (1, "-A-")]), (refusal(12, 1), None));
+    assert_eq!(found(&[(5, "AA--"), (4, "--AA")]), (None, None));
 }
 
 #[test]
 fn lengths_of_what_is_lent() {
     let bytes = table(&["AB"]);
-    let fault = |lent| call_fault(2, &bytes, lent);
+    let fault = |lent| call_fault(Corrections, 2, &bytes, lent);
     assert_eq!(fault(&[(Work, 32768), (Answer, 8), (Corrected, 32)]), None);
     assert_eq!(fault(&[(Work, 40000), (Answer, 8), (Corrected, 32)]), None);
     assert_eq!(fault(&[(Work, 32767), (Answer, 9), (Corrected, 32)]), refusal(10, 0));
     assert_eq!(fault(&[(Work, 32768), (Answer, 9), (Corrected, 32)]), refusal(11, 0));
     assert_eq!(fault(&[(Work, 32768), (Answer, 8), (Corrected, 31)]), refusal(11, 0));
-    assert_eq!(call_fault(usize::MAX, &bytes, &[(Work, 0), (Answer, 8)]), refusal(3, 0));
-    assert_eq!(call_fault(1, &bytes, &[(Work, 32768), (Answer, 5)]), refusal(4, 0));
+    assert_eq!(call_fault(Snps, usize::MAX, &bytes, &[(Work, 0), (Answer, 8)]), refusal(3, 0));
+    assert_eq!(call_fault(Snps, 1, &bytes, &[(Work, 32768), (Answer, 5)]), refusal(4, 0));
 }
 
 #[test]
 fn length_of_counts() {
     let bytes = table(&["ABA", "AAA"]);
-    let fault = |n: usize, length: usize| call_fault(n, &bytes, &[(Counts, length)]);
+    let fault = |n: usize, length: usize| call_fault(ConflictCounts, n, &bytes, &[(Counts, length)]);
     assert_eq!(fault(3, 4), None);
     assert_eq!(fault(128, 4), None);
     assert_eq!(fault(3, 3), refusal(11, 0));
@@ -188,6 +281,8 @@ fn conflicts_of_every_two() {
     assert_eq!(counts(&["AA", "AA"]), [0; 4]);
     assert_eq!(counts(&["A-", "-B"]), [0; 4]);
     assert_eq!(counts(&["AB", "--", "BB"]), [0, 0, 1, 0, 0, 0, 1, 0, 0]);
+    assert_eq!(counts(&["A-A", "BBB"]), [0, 2, 2, 0]);
+    assert_eq!(counts(&["A-A", "-B-"]), [0; 4]);
     assert_eq!(counts(&[]), []);
 }
 
@@ -222,23 +317,31 @@ fn sizes_of_cells() {
 fn faults_of_cells() {
     let fault = |cells: &[u8], tags: &[u32]| pack_fault(cells.len() / tags.len(), cells, tags, RECORD * tags.len());
     assert_eq!(fault(&[0, 1, 2, 0, 0, 0], &[7, 8]), None);
-    assert_eq!(fault(&[0, 1, 2, 1, 0, 2], &[7, 8]), refusal(8, 1));
+    assert_eq!(fault(&[0, 1, 2, 1, 0, 2], &[7, 8]), None);
     assert_eq!(fault(&[0, 1, 2, 1, 0, 3], &[7, 8]), refusal(6, 1));
+    assert_eq!(fault(&[0, 1, 2, 1, 0, 2], &[7, 7]), refusal(9, 1));
     assert_eq!(fault(&[0, 1, 2, 1, 1, 2], &[7, 7]), refusal(9, 1));
     let wide = |calls: usize| [vec![0; 9], vec![1; calls], vec![0; 9]].concat();
     assert_eq!(fault(&wide(96), &[7]), None);
     assert_eq!(fault(&wide(97), &[7]), refusal(4, 0));
     let far = |between: usize| [vec![1], vec![0; between], vec![1]].concat();
-    assert_eq!(fault(&far(94), &[7]), refusal(8, 0));
+    assert_eq!(fault(&far(94), &[7]), None);
     assert_eq!(fault(&far(95), &[7]), refusal(4, 0));
 }
 
 #[test]
-fn the_called_columns_of_a_row() {
-    assert_eq!(called(&[0, 1, 2, 0]), 1..3);
-    assert_eq!(called(&[1, 0, 2]), 0..3);
-    assert_eq!(called(&[0, 0]), 0..0);
-    assert_eq!(called(&[]), 0..0);
+fn the_stretch_of_a_row() {
+    assert_eq!(stretch(&[0, 1, 2, 0]), 1..3);
+    assert_eq!(stretch(&[1, 0, 2]), 0..3);
+    assert_eq!(stretch(&[0, 0]), 0..0);
+    assert_eq!(stretch(&[]), 0..0);
+}
+
+#[test]
+fn the_first_gapped_fragment() {
+    assert_eq!(gapped(&matrix(&["AB-", "-AB", "B-A"])), refusal(8, 2));
+    assert_eq!(gapped(&matrix(&["A-B", "A-A"])), refusal(8, 0));
+    assert_eq!(gapped(&matrix(&["-A-", "---", "AB-"])), None);
 }
 
 #[test]
@@ -254,15 +357,18 @@ fn places_of_a_tag() {
 /// Columns without calls change no answer but by holes at the end, whichever method gives it.
 #[test]
 fn wider_tables() {
+    let names = ["uniform", "noisy copies", "nested", "single calls", "identical", "mates, uniform", "mates, cycles"];
     for index in 0..200 {
         let rng = &mut Rng::for_table(1, index);
-        let bytes = generate::kinds()[1 + index % 6].table(rng);
+        let name = names[index % names.len()];
+        let kinds = generate::kinds();
+        let bytes = kinds.iter().find(|kind| kind.name == name).expect("a kind").table(rng);
         let (n, wide) = (column_count(&bytes), column_count(&bytes) + 3);
         let (narrow, _) = methods::answers(&Matrix::read(&bytes, n)).expect("the methods agree");
         let (found, _) = methods::answers(&Matrix::read(&bytes, wide)).expect("the methods agree");
         assert_eq!(found.check, narrow.check.map(|answer| answer.widened(wide)));
-        assert_eq!(found.snps, narrow.snps.widened(wide));
-        assert_eq!(found.fragments, narrow.fragments.widened(wide));
+        assert_eq!(found.snps, narrow.snps.map(|answer| answer.widened(wide)));
+        assert_eq!(found.fragments, narrow.fragments.map(|answer| answer.widened(wide)));
         assert_eq!(found.corrections, narrow.corrections.map(|answer| answer.widened(wide)));
     }
 }

@@ -5,7 +5,7 @@ use crate::brute;
 use crate::counts::conflict_counts;
 use crate::expected::{Accepted, Outcome as TableOutcome};
 use crate::library::{Buffers, Call, Returned};
-use crate::record::{called, places_of, record, set_cell, span, start, tag, whole_records, Matrix, RECORD};
+use crate::record::{places_of, record, set_cell, span, start, stretch, tag, whole_records, Matrix, RECORD};
 use crate::rules::{call_fault, pack_fault, Refusal};
 use crate::service::{Buffer, Service};
 use haplotypes::Outcome;
@@ -20,24 +20,33 @@ pub struct Expected {
 pub fn of_call(call: &Call, table: &TableOutcome) -> Expected {
     let lent = call.service.buffers().into_iter().filter(|&buffer| buffer != Buffer::Table);
     let lengths: Vec<(Buffer, usize)> = lent.map(|buffer| (buffer, call.lent.length(buffer))).collect();
-    if let Some(refusal) = call_fault(call.number, call.lent.table.lent(), &lengths) {
+    if let Some(refusal) = call_fault(call.service, call.number, call.lent.table.lent(), &lengths) {
         return refused(call, refusal);
     }
     let TableOutcome::Accepted(table) = table else {
         unreachable!("a fault for its own column count is one for every other");
     };
     let n = call.number;
-    match (call.service, &table.answers.corrections) {
-        (Service::Corrections, Err(refusal)) => refused(call, *refusal),
-        (Service::Corrections, Ok(answer)) => accepted(call, |after| {
+    match call.service {
+        Service::Snps => answered(call, &table.answers.snps, |_, _| ()),
+        Service::Fragments => answered(call, &table.answers.fragments, |_, _| ()),
+        Service::Corrections => answered(call, &table.answers.corrections, |answer, after| {
             after.corrected.put(&corrected_table(call.lent.table.lent(), table, answer));
-            least(n, answer, after)
         }),
-        (Service::Snps, _) => accepted(call, |after| least(n, &table.answers.snps, after)),
-        (Service::Fragments, _) => accepted(call, |after| least(n, &table.answers.fragments, after)),
-        (Service::Check, _) => accepted(call, |after| checked(n, &table.answers.check, after)),
-        (Service::ConflictCounts, _) => accepted(call, |after| counted(n, after)),
+        Service::Check => accepted(call, |after| checked(n, &table.answers.check, after)),
+        Service::ConflictCounts => accepted(call, |after| counted(n, after)),
         _ => accepted(call, |after| unpacked(n, after)),
+    }
+}
+
+/// Of S, F or C: its own refusal, or the answer and what it fills besides.
+fn answered(call: &Call, answer: &Result<Answer, Refusal>, fill: impl FnOnce(&Answer, &mut Buffers)) -> Expected {
+    match answer {
+        Err(refusal) => refused(call, *refusal),
+        Ok(answer) => accepted(call, |after| {
+            fill(answer, after);
+            least(call.number, answer, after)
+        }),
     }
 }
 
@@ -82,7 +91,7 @@ fn counted(n: usize, after: &mut Buffers) -> usize {
 
 fn packed(n: usize, after: &mut Buffers) -> usize {
     let rows = Matrix::of_cells(n, after.tags.lent().len(), after.cells.lent()).rows;
-    let packed = |(row, &tag): (&Vec<u8>, &u32)| record(tag, called(row).start, &row[called(row)]);
+    let packed = |(row, &tag): (&Vec<u8>, &u32)| record(tag, stretch(row).start, &row[stretch(row)]);
     let table: Vec<u8> = rows.iter().zip(after.tags.lent()).flat_map(packed).collect();
     after.table.put(&table);
     rows.len()

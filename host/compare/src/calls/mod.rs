@@ -11,9 +11,9 @@ use crate::expected::Outcome as TableOutcome;
 use crate::generate::Cells;
 use crate::guarded::Guarded;
 use crate::library::{Buffers, Call, Library, Returned};
-use crate::record::{column_count, RECORD};
+use crate::record::{column_count, Matrix, RECORD};
 use crate::rng::Rng;
-use crate::rules::LEAST_WORK;
+use crate::rules::{table_fault, LEAST_WORK};
 use crate::seen::{Counts, Seen, Verdict};
 use crate::service::Service;
 use expected::Expected;
@@ -37,14 +37,35 @@ pub fn all(library: Library, table: &Table, cells: &Cells, rng: &mut Rng) -> Res
         for sizes in sizes::of_calls(service, column_count(table.bytes), table.bytes.len() / RECORD, rng) {
             let call = on_table(service, table.bytes, sizes, rng);
             let expected = expected::of_call(&call, table.outcome);
+            if matches!(expected.returned, Returned::Outcome(Outcome::Refused(8, _))) {
+                counts.add(gap(&call), 1);
+            }
             compared(library, call, expected, &mut counts)?;
         }
     }
     find::all(library, table.bytes, rng, &mut counts)?;
     pack::all(library, cells, rng, &mut counts)?;
-    counts.add(Seen::TableRoundTrip, round_trips::of_table(library, table.bytes, rng)? as usize);
-    counts.add(Seen::CellsRoundTrip, round_trips::of_cells(library, cells, rng)? as usize);
+    if round_trips::of_table(library, table.bytes, rng)? {
+        counts.add(Seen::TableRoundTrip, 1);
+        counts.add(Seen::GappedTableRoundTrip, has_gaps(table) as usize);
+    }
+    if round_trips::of_cells(library, cells, rng)? {
+        counts.add(Seen::CellsRoundTrip, 1);
+        counts.add(Seen::GappedCellsRoundTrip, cells.matrix().is_gapped() as usize);
+    }
     Ok(counts)
+}
+
+fn has_gaps(table: &Table) -> bool {
+    Matrix::read(table.bytes, column_count(table.bytes)).is_gapped()
+}
+
+/// What S's or F's refusal 8 shows: check accepts, or it refuses that record by 9, or a later one.
+fn gap(call: &Call) -> Seen {
+    match table_fault(call.number, call.lent.table.lent()) {
+        None => Seen::GapAlone(call.service),
+        Some(_) => Seen::GapBeforeFault(call.service),
+    }
 }
 
 fn on_table(service: Service, table: &[u8], sizes: Sizes, rng: &mut Rng) -> Call {

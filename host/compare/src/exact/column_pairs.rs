@@ -20,6 +20,11 @@ pub fn first_most_kept(letters: &Letters, work: &mut Work) -> Result<Option<u128
     Ok(letters.first_sides(kept, letters.all_fragments()).map(|_| kept))
 }
 
+/// Are no two columns at odds? A gapless table is then error-free, but one with holes between calls need not be.
+pub fn none_at_odds(letters: &Letters) -> bool {
+    (0..letters.n()).all(|d| (0..d).all(|c| !at_odds(letters, c, d)))
+}
+
 fn odds(letters: &Letters) -> Vec<u128> {
     let mut odds = vec![0; letters.n()];
     for d in 0..letters.n() {

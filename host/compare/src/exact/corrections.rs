@@ -1,7 +1,7 @@
 //! C by branch and bound over the side lists of each part. Its fragments are decided by their first column. Costs only
 //! grow as fragments are added, and two halves of a part cost at least as much together as each alone, so the least cost
 //! of the undecided fragments by themselves is added to the bound. These least costs come from the same search, from the
-//! last fragment alone to the whole part.
+//! last fragment alone to the whole part. Nothing here needs a gapless table.
 
 use super::letters::{below, members, Letters};
 use super::{block_numbers, PastLimit, Work};
@@ -23,17 +23,23 @@ struct Search<'a> {
     work: &'a mut Work,
 }
 
-pub fn answer(letters: &Letters, work: &mut Work) -> Result<Answer, PastLimit> {
+/// The first side list of least cost.
+pub fn first_least_sides(letters: &Letters, work: &mut Work) -> Result<Vec<u8>, PastLimit> {
     let mut sides = vec![1; letters.m()];
     for part in letters.parts() {
-        let found = first_least_sides(letters, part, work)?;
+        let found = sides_of_part(letters, part, work)?;
         members(part).for_each(|f| sides[f] = found[f]);
     }
+    Ok(sides)
+}
+
+/// C's answer with these sides.
+pub fn answer(letters: &Letters, sides: Vec<u8>) -> Answer {
     let mut counts = Counts::none(letters.n());
     let count = (0..letters.m()).map(|f| counts.put(letters, f, sides[f])).sum();
     let haplotypes = [0, 1].map(|side| counts.of.iter().map(|column| majority(column[side])).collect());
     let blocks = block_numbers(&letters.corrected(&haplotypes, &sides), letters.all_columns(), &sides);
-    Ok(Answer { count, keep: vec![true; letters.n()], haplotypes, sides, blocks })
+    Answer { count, keep: vec![true; letters.n()], haplotypes, sides, blocks }
 }
 
 fn majority([a, b]: [usize; 2]) -> u8 {
@@ -45,7 +51,7 @@ fn majority([a, b]: [usize; 2]) -> u8 {
 }
 
 /// The sides of the part's fragments in the first side list of least cost.
-fn first_least_sides(letters: &Letters, part: u128, work: &mut Work) -> Result<Vec<u8>, PastLimit> {
+fn sides_of_part(letters: &Letters, part: u128, work: &mut Work) -> Result<Vec<u8>, PastLimit> {
     let mut order: Vec<usize> = members(part).collect();
     order.sort_by_key(|&f| (letters.calls(f).trailing_zeros(), letters.calls(f).leading_zeros()));
     let mut search = Search {
@@ -63,7 +69,7 @@ fn first_least_sides(letters: &Letters, part: u128, work: &mut Work) -> Result<V
     Ok(search.sides)
 }
 
-/// A look for side lists that differ at a fragment. `reach` is the end of the fragments that differ so far, 0 if none.
+/// A look for side lists that differ at a fragment. `reach` is the end of the stretches that differ so far, 0 if none.
 #[derive(Clone, Copy)]
 struct Moving {
     fragment: usize,

@@ -1,7 +1,8 @@
 //! Exact methods of another kind than trying every choice. Branching goes on odd cycles (S and F) and on sides (C), with the
 //! number of removals or corrections as the limit. Every part is branched by itself, since parts share neither columns nor
 //! fragments: the least counts add up, and the first choice of the whole is the first choice of each part. S has a second
-//! method by pairs of columns, and F one by pairs of haplotypes. None settles a table whose search passes its limit of work.
+//! method by pairs of columns, F one by pairs of haplotypes, and C one by the sides of open fragments. None settles a table
+//! whose search passes its limit of work. Pairs of columns need a gapless table; C's methods do not.
 
 mod column_pairs;
 mod corrections;
@@ -9,6 +10,7 @@ mod fragments;
 mod haplotype_pairs;
 mod letters;
 mod odd_walk;
+mod open_fragments;
 mod snps;
 
 use crate::answer::{haplotypes, Answer, REMOVED_FRAGMENT};
@@ -95,7 +97,21 @@ fn without_fragments(matrix: &Matrix, letters: &Letters, removed: u128) -> Answe
 }
 
 pub fn corrections_by_branching(matrix: &Matrix) -> Option<Answer> {
-    corrections::answer(&Letters::new(matrix), &mut Work::new(MOST_SIDE_NODES)).ok()
+    let letters = Letters::new(matrix);
+    let sides = corrections::first_least_sides(&letters, &mut Work::new(MOST_SIDE_NODES)).ok()?;
+    Some(corrections::answer(&letters, sides))
+}
+
+pub fn corrections_by_open_fragments(matrix: &Matrix) -> Option<Answer> {
+    let letters = Letters::new(matrix);
+    let side_2 = open_fragments::first_least_sides(&letters);
+    let sides = (0..matrix.m()).map(|f| 1 + (side_2 >> f & 1) as u8).collect();
+    Some(corrections::answer(&letters, sides))
+}
+
+/// Is the table error-free on every two of its columns by themselves?
+pub fn every_two_columns_error_free(matrix: &Matrix) -> bool {
+    column_pairs::none_at_odds(&Letters::new(matrix))
 }
 
 fn phased(matrix: &Matrix, letters: &Letters, count: usize, columns: u128, sides: Vec<u8>) -> Answer {

@@ -1,6 +1,7 @@
-//! Random cells and tags for pack: most keep its rules, the others have a fault or several.
+//! Random cells and tags for pack, with holes between calls and without: most keep its rules, the others have a fault or
+//! several.
 
-use super::rows::{letter, letters, place, tags};
+use super::rows::{letter, letters, place, punch, tags};
 use crate::record::{Matrix, CELLS, HOLE};
 use crate::rng::Rng;
 use crate::rules::{MOST_COLUMNS, MOST_FRAGMENTS};
@@ -13,23 +14,28 @@ pub struct Cells {
 }
 
 impl Cells {
+    pub fn matrix(&self) -> Matrix {
+        Matrix::of_cells(self.n, self.tags.len(), &self.cells)
+    }
+
     /// A line for each fragment: its tag and its cells.
     pub fn shown(&self) -> String {
-        let rows = Matrix::of_cells(self.n, self.tags.len(), &self.cells).rows;
+        let rows = self.matrix().rows;
         rows.iter().zip(&self.tags).map(|(row, tag)| format!("tag {tag}, cells {row:?}\n")).collect()
     }
 }
 
-/// Faults of one fragment. A row may bear one and still keep the rules.
-const ROW_FAULTS: [fn(&mut Rng, &mut [u8]); 4] = [hole, unknown_call, another_call, wide];
+/// Changes of one fragment. A row may bear one and still keep the rules.
+const ROW_CHANGES: [fn(&mut Rng, &mut [u8]); 4] = [hole, unknown_call, another_call, wide];
 
 pub fn cells(rng: &mut Rng) -> Cells {
     let (m, n) = (size(rng, MOST_FRAGMENTS), size(rng, MOST_COLUMNS));
-    let mut rows: Vec<Vec<u8>> = (0..m).map(|_| gapless(rng, n)).collect();
+    let gapped = rng.pick(&[0, 50, 100]);
+    let mut rows: Vec<Vec<u8>> = (0..m).map(|_| row(rng, n, gapped)).collect();
     let mut tags = tags(rng, m);
     if m > 0 && rng.chance(50) {
         for _ in 0..rng.between(1, 3) {
-            fault(rng, &mut rows, &mut tags);
+            change(rng, &mut rows, &mut tags);
         }
     }
     Cells { n, cells: rows.concat(), tags }
@@ -44,23 +50,28 @@ fn size(rng: &mut Rng, most: usize) -> usize {
     }
 }
 
-/// A row with one stretch of calls, or none.
-fn gapless(rng: &mut Rng, n: usize) -> Vec<u8> {
+/// A row with one stretch of calls, or none; with holes between the calls in `gapped` of 100 cases.
+fn row(rng: &mut Rng, n: usize, gapped: usize) -> Vec<u8> {
     let mut row = vec![HOLE; n];
     if n > 0 && rng.chance(90) {
         let longest = rng.pick(&[4, CELLS, CELLS]);
         let (start, span) = place(rng, n, longest);
-        row[start..start + span].copy_from_slice(&letters(rng, span));
+        let stretch = &mut row[start..start + span];
+        stretch.copy_from_slice(&letters(rng, span));
+        if span > 2 && rng.chance(gapped) {
+            punch(rng, stretch);
+        }
     }
     row
 }
 
-fn fault(rng: &mut Rng, rows: &mut [Vec<u8>], tags: &mut [u32]) {
+/// A tag that another fragment has, or another row.
+fn change(rng: &mut Rng, rows: &mut [Vec<u8>], tags: &mut [u32]) {
     let f = rng.below(rows.len());
     if rng.chance(20) {
         tags[f] = rng.pick(tags);
     } else if !rows[f].is_empty() {
-        rng.pick(&ROW_FAULTS)(rng, &mut rows[f]);
+        rng.pick(&ROW_CHANGES)(rng, &mut rows[f]);
     }
 }
 

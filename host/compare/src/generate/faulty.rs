@@ -1,6 +1,8 @@
-//! Tables with the faults that rules 1 to 9 refuse, one at a time and several at once.
+//! Tables with the faults that rules 1 to 9 refuse, one at a time and several at once. A hole between two calls is a fault to
+//! S and F alone.
 
-use super::rows::table;
+use super::mates::gapped_rows;
+use super::rows::{table, Row};
 use super::small::{noisy_rows, uniform_rows};
 use crate::record::{record, set_cell, set_start, span, tag, CELLS, HOLE, RECORD};
 use crate::rng::Rng;
@@ -22,6 +24,16 @@ pub fn several(rng: &mut Rng) -> Vec<u8> {
     let mut bytes = base(rng);
     for _ in 0..rng.between(2, 5) {
         fault(rng, &mut bytes, 10);
+    }
+    bytes
+}
+
+/// One fault, or several, beside holes between calls: S and F refuse the first record that has either.
+pub fn of_mates(rng: &mut Rng) -> Vec<u8> {
+    let rows = gapped_rows(rng, base_rows);
+    let mut bytes = table(rng, rows);
+    for _ in 0..rng.between(1, 3) {
+        fault(rng, &mut bytes, 5);
     }
     bytes
 }
@@ -87,6 +99,11 @@ pub fn random_fields(rng: &mut Rng) -> Vec<u8> {
 
 /// A lawful table with at least one record.
 fn base(rng: &mut Rng) -> Vec<u8> {
+    let rows = base_rows(rng);
+    table(rng, rows)
+}
+
+fn base_rows(rng: &mut Rng) -> Vec<Row> {
     let mut rows = if rng.chance(50) { uniform_rows(rng, 8, 8) } else { noisy_rows(rng, 8, 8) };
     if rng.chance(25) {
         rows.push((0, Vec::new()));
@@ -94,7 +111,7 @@ fn base(rng: &mut Rng) -> Vec<u8> {
     if rows.is_empty() || rng.chance(10) {
         rows.push((rng.below(3), vec![2; rng.between(1, 9)]));
     }
-    table(rng, rows)
+    rows
 }
 
 fn ragged(rng: &mut Rng, bytes: &mut Vec<u8>) {

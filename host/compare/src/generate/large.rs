@@ -4,7 +4,7 @@ use super::rows::{copy, haplotypes, letter, letters, other, place, table, Row};
 use super::small::{noisy_rows, uniform_rows};
 use crate::record::CELLS;
 use crate::rng::Rng;
-use crate::rules::{MOST_CALLS_OF_A_COLUMN, MOST_COLUMNS, MOST_FRAGMENTS};
+use crate::rules::{MOST_COLUMNS, MOST_DEPTH, MOST_FRAGMENTS};
 
 /// A small table far to the right, or several of them side by side.
 pub fn shifted(rng: &mut Rng) -> Vec<u8> {
@@ -69,25 +69,33 @@ pub fn medium_shallow(rng: &mut Rng) -> Vec<u8> {
     table(rng, rows)
 }
 
-/// Fragments that fit under 8 calls in each column.
-fn shallow_rows(rng: &mut Rng, m: usize, n: usize, longest: usize, noise: usize) -> Vec<Row> {
+pub fn shallow_rows(rng: &mut Rng, m: usize, n: usize, longest: usize, noise: usize) -> Vec<Row> {
     let haplotypes = haplotypes(rng, n, 90);
-    let mut depth = vec![0; n];
-    let mut rows = Vec::new();
-    for _ in 0..4 * m {
-        let (start, span) = place(rng, n, longest);
-        let columns = &mut depth[start..start + span];
-        if rows.len() < m && columns.iter().all(|&calls| calls < MOST_CALLS_OF_A_COLUMN) {
-            columns.iter_mut().for_each(|calls| *calls += 1);
-            rows.push(copy(rng, &haplotypes, (start, span), noise));
-        }
-    }
+    let places = (0..4 * m).map(|_| place(rng, n, longest)).collect();
+    let mut rows = fitting(rng, m, &haplotypes, places, noise);
     rows.sort();
     rows
 }
 
+/// A first column and a span.
+type Place = (usize, usize);
+
+/// Copies at the first m places that leave at most 8 fragments over each column.
+pub fn fitting(rng: &mut Rng, m: usize, haplotypes: &[Vec<u8>; 2], places: Vec<Place>, noise: usize) -> Vec<Row> {
+    let mut depth = vec![0; haplotypes[0].len()];
+    let mut rows = Vec::new();
+    for (start, span) in places {
+        let columns = &mut depth[start..start + span];
+        if rows.len() < m && columns.iter().all(|&fragments| fragments < MOST_DEPTH) {
+            columns.iter_mut().for_each(|fragments| *fragments += 1);
+            rows.push(copy(rng, haplotypes, (start, span), noise));
+        }
+    }
+    rows
+}
+
 /// 128 fragments on 128 columns; the first and last reach the ends.
-fn full_rows(rng: &mut Rng) -> Vec<Row> {
+pub fn full_rows(rng: &mut Rng) -> Vec<Row> {
     let haplotypes = haplotypes(rng, MOST_COLUMNS, 80);
     let shortest = rng.pick(&[1, 8, 40]);
     let mut places = vec![(0, CELLS), (MOST_COLUMNS - CELLS, CELLS)];
@@ -110,7 +118,7 @@ pub fn full_noisy(rng: &mut Rng) -> Vec<u8> {
     table(rng, rows)
 }
 
-fn with_errors(rng: &mut Rng, mut rows: Vec<Row>) -> Vec<Row> {
+pub fn with_errors(rng: &mut Rng, mut rows: Vec<Row>) -> Vec<Row> {
     for _ in 0..rng.between(1, 20) {
         let f = rng.below(rows.len());
         let calls = &mut rows[f].1;
@@ -167,7 +175,7 @@ pub fn full_heavy_noise(rng: &mut Rng) -> Vec<u8> {
 
 /// Exactly 8 calls in each column, and in half of the tables 9 in one.
 pub fn full_at_depth(rng: &mut Rng) -> Vec<u8> {
-    let width = MOST_CALLS_OF_A_COLUMN;
+    let width = MOST_DEPTH;
     let mut rows: Vec<Row> = Vec::new();
     for block in 0..MOST_COLUMNS / width {
         let haplotypes = haplotypes(rng, width, 100);

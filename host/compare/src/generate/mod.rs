@@ -3,6 +3,7 @@
 mod cells;
 mod faulty;
 mod large;
+mod mates;
 mod rows;
 mod small;
 
@@ -34,8 +35,14 @@ pub fn kinds() -> Vec<Kind> {
         kind("without calls", 50, small::bare),
         kind("deep", 300, small::deep),
         kind("up to 12 x 12", 200, small::twelve),
+        kind("mates, uniform", 4800, mates::uniform),
+        kind("mates, noisy copies", 4800, mates::noisy),
+        kind("mates, cycles", 1500, mates::cycles),
+        kind("mates, deep", 800, mates::deep),
+        kind("mates, 12 x 12", 300, mates::twelve),
         kind("one fault", 1500, faulty::one),
         kind("several faults", 1000, faulty::several),
+        kind("mates and faults", 800, faulty::of_mates),
         kind("long or ragged", 400, faulty::long),
         kind("random fields", 600, faulty::random_fields),
         kind("shifted", 300, large::shifted),
@@ -43,6 +50,7 @@ pub fn kinds() -> Vec<Kind> {
         kind("many, short", 200, large::many_short),
         kind("medium, heavy noise", 300, large::medium),
         kind("medium, shallow", 300, large::medium_shallow),
+        kind("medium, mates", 300, mates::medium),
         kind("full, error-free", 10, large::full_error_free),
         kind("full, noisy", 60, large::full_noisy),
         kind("full, nested", 60, large::full_nested),
@@ -50,5 +58,10 @@ pub fn kinds() -> Vec<Kind> {
         kind("full, blocks", 60, large::full_blocks),
         kind("full, 8 and 9 calls", 20, large::full_at_depth),
         kind("full, heavy noise", 20, large::full_heavy_noise),
+        kind("full, mates", 40, mates::full),
+        kind("full, mates shallow", 60, mates::full_shallow),
+        kind("full, mates at depth", 80, mates::full_at_depth),
+        kind("full, far mates", 60, mates::full_far),
+        kind("full, mate cycles", 60, mates::full_cycles),
     ]
 }

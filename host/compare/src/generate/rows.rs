@@ -1,11 +1,16 @@
 //! Fragments before they have tags and bytes, and the shapes that the kinds of tables share.
 
-use crate::record::{record, A, B};
+use crate::record::{record, stretch, A, B, HOLE};
 use crate::rng::Rng;
 use std::collections::HashSet;
 
-/// A fragment's first column and its calls.
+/// A fragment's first column and its cells from there to its last call.
 pub type Row = (usize, Vec<u8>);
+
+/// The fragment of a row of cells.
+pub fn trimmed(cells: &[u8]) -> Row {
+    (stretch(cells).start, cells[stretch(cells)].to_vec())
+}
 
 /// The bytes of a table with these fragments. Most tables have their records in random order, some in the order given.
 pub fn table(rng: &mut Rng, mut rows: Vec<Row>) -> Vec<u8> {
@@ -13,7 +18,7 @@ pub fn table(rng: &mut Rng, mut rows: Vec<Row>) -> Vec<u8> {
         rng.shuffle(&mut rows);
     }
     let tags = tags(rng, rows.len());
-    rows.iter().zip(tags).flat_map(|((start, calls), tag)| record(tag, *start, calls)).collect()
+    rows.iter().zip(tags).flat_map(|((start, cells), tag)| record(tag, *start, cells)).collect()
 }
 
 /// Different tags: counted, random, or different in one byte only.
@@ -65,4 +70,19 @@ pub fn haplotypes(rng: &mut Rng, n: usize, different: usize) -> [Vec<u8>; 2] {
 pub fn copy(rng: &mut Rng, haplotypes: &[Vec<u8>; 2], (start, span): (usize, usize), noise: usize) -> Row {
     let from = &haplotypes[rng.below(2)][start..start + span];
     (start, from.iter().map(|&code| if rng.below(1000) < noise { other(code) } else { code }).collect())
+}
+
+/// Holes between the first of some cells and the last, which are three at least: one between two mates, several, or nothing
+/// but holes.
+pub fn punch(rng: &mut Rng, cells: &mut [u8]) {
+    let last = cells.len() - 1;
+    let from = rng.between(1, last - 1);
+    match rng.below(4) {
+        0 => cells[1..last].fill(HOLE),
+        1 => {
+            cells[from] = HOLE;
+            cells[1..last].iter_mut().filter(|_| rng.chance(35)).for_each(|cell| *cell = HOLE);
+        }
+        _ => cells[from..rng.between(from + 1, last)].fill(HOLE),
+    }
 }

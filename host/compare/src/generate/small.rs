@@ -3,7 +3,7 @@
 use super::rows::{copy, haplotypes, letters, place, table, Row};
 use crate::rng::Rng;
 
-const SMALL: usize = 9;
+pub const SMALL: usize = 9;
 
 pub fn uniform(rng: &mut Rng) -> Vec<u8> {
     let rows = uniform_rows(rng, SMALL, SMALL);
@@ -22,7 +22,7 @@ pub fn uniform_rows(rng: &mut Rng, most_fragments: usize, most_columns: usize) -
 }
 
 /// The larger of two numbers from `low` to `high`: smaller tables are mostly error-free.
-fn larger(rng: &mut Rng, low: usize, high: usize) -> usize {
+pub fn larger(rng: &mut Rng, low: usize, high: usize) -> usize {
     rng.between(low, high).max(rng.between(low, high))
 }
 
@@ -93,22 +93,31 @@ pub fn bare(rng: &mut Rng) -> Vec<u8> {
 
 /// Around 8 calls in a column.
 pub fn deep(rng: &mut Rng) -> Vec<u8> {
-    let m = rng.between(8, 12);
     let n = rng.between(1, 6);
+    let rows = deep_rows(rng, n);
+    table(rng, rows)
+}
+
+pub fn deep_rows(rng: &mut Rng, n: usize) -> Vec<Row> {
+    let m = rng.between(8, 12);
     let haplotypes = haplotypes(rng, n, 80);
     let mut row = || {
         let span = rng.between(1 + n / 2, n);
         let start = rng.between(0, n - span);
         copy(rng, &haplotypes, (start, span), 100)
     };
-    let rows = (0..m).map(|_| row()).collect();
-    table(rng, rows)
+    (0..m).map(|_| row()).collect()
 }
 
 pub fn twelve(rng: &mut Rng) -> Vec<u8> {
+    let rows = twelve_rows(rng);
+    table(rng, rows)
+}
+
+pub fn twelve_rows(rng: &mut Rng) -> Vec<Row> {
     let mut rows = if rng.chance(30) { uniform_rows(rng, 12, 12) } else { noisy_rows(rng, 12, 12) };
     if rows.len() < 12 && rng.chance(50) {
         rows.push((0, letters(rng, 12)));
     }
-    table(rng, rows)
+    rows
 }

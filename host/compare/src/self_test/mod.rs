@@ -1,12 +1,14 @@
 //! Shows that the comparison can fail: what paper 01 prints passes, and with any one letter changed it does not. A
 //! library that is wrong in one way is noticed, a method that differs, and a run that has seen too little.
 
+mod wrong_gaps;
 mod wrong_libraries;
 
+use crate::answer::Answer;
 use crate::compare::{listing_says, same_text};
 use crate::coverage::{self, Demand};
-use crate::methods::{settled, Method, FRAGMENTS, SNPS};
-use crate::record::{record, Matrix};
+use crate::methods::{like_check, settled, Method, Settled, FRAGMENTS, SNPS};
+use crate::record::{record, Matrix, A, B, HOLE};
 use crate::runner::Tally;
 use crate::{agree, expected};
 use std::path::Path;
@@ -24,23 +26,42 @@ F 1 111 AA- BAA 120 0,0,-
 C 1 111 AAA -BB 112 0,0,0
 ";
 
+/// AB-, -AB, B-A: every two columns by themselves are error-free, and the three are not.
+pub fn gapped_triangle() -> Vec<u8> {
+    [record(10, 0, &[A, B]), record(11, 1, &[A, B]), record(12, 0, &[B, HOLE, A])].concat()
+}
+
+/// By hand: on one side the three differ on every column; with sides 112 the first two do on column 1, where the B becomes A.
+pub const TRIANGLE_LISTING: &str = "\
+fragments 3 snps 3
+error-free no
+S refused 8 at 2
+F refused 8 at 2
+C 1 111 AAB B-A 112 0,0,0
+";
+
 /// The number of wrong expectations, libraries, methods and counts, all noticed.
 pub fn run(listing: Option<&Path>) -> Result<usize, String> {
-    let table = printed_table();
-    let own = expected::text(&expected::outcome(&table)?);
-    same_text("the printed listing", PRINTED_LISTING, own.as_bytes())?;
+    let listings = wrong_listings(listing, &printed_table(), PRINTED_LISTING)?
+        + wrong_listings(listing, &gapped_triangle(), TRIANGLE_LISTING)?;
+    Ok(listings + wrong_libraries::noticed()? + wrong_methods()? + too_little_seen(false)? + too_little_seen(true)?)
+}
+
+/// The listing of a table, by the methods and by the program, with any part of it wrong.
+fn wrong_listings(listing: Option<&Path>, table: &[u8], text: &str) -> Result<usize, String> {
+    let own = expected::text(&expected::outcome(table)?);
+    same_text("own text", text, own.as_bytes())?;
     if let Some(program) = listing {
-        listing_says(program, &table, PRINTED_LISTING)?;
+        listing_says(program, table, text)?;
     }
-    let mut noticed = 0;
-    for wrong in spoiled(PRINTED_LISTING) {
-        must_differ(same_text("own text", &wrong, own.as_bytes()))?;
+    let wrong = spoiled(text);
+    for wrong in &wrong {
+        must_differ(same_text("own text", wrong, own.as_bytes()))?;
         if let Some(program) = listing {
-            must_differ(listing_says(program, &table, &wrong))?;
+            must_differ(listing_says(program, table, wrong))?;
         }
-        noticed += 1;
     }
-    Ok(noticed + wrong_libraries::noticed()? + wrong_methods()? + too_little_seen(false)? + too_little_seen(true)?)
+    Ok(wrong.len())
 }
 
 /// The text with one letter changed at every fifth place, without its end, and with a line more.
@@ -52,15 +73,21 @@ fn spoiled(text: &str) -> Vec<String> {
     all
 }
 
-/// A method with another answer, and no method that settles the table.
+/// A method with another answer, no method that settles the table, and a check that does not go with a least count.
 fn wrong_methods() -> Result<usize, String> {
     let matrix = Matrix::read(&printed_table(), 3);
     let silent = Method { name: "silent", answer: |_| None };
     let differing = Method { name: "differing", answer: FRAGMENTS[0].answer };
-    agree("the methods of S", &vec![SNPS[0].name], &settled(&[silent, SNPS[0]], &matrix)?.by)?;
+    let Settled { answer: one_removed, by } = settled(&[silent, SNPS[0]], &matrix)?;
+    agree("the methods of S", &vec![SNPS[0].name], &by)?;
     must_differ(settled(&[SNPS[0], differing], &matrix).map(drop))?;
     must_differ(settled(&[silent], &matrix).map(drop))?;
-    Ok(2)
+    let none_removed = Answer { count: 0, ..one_removed.clone() };
+    like_check(&None, &one_removed)?;
+    like_check(&Some(none_removed.clone()), &none_removed)?;
+    must_differ(like_check(&None, &none_removed))?;
+    must_differ(like_check(&Some(none_removed), &one_removed))?;
+    Ok(4)
 }
 
 /// Tallies that just meet every demand pass; without a kind, or with a count that just misses, they do not.

@@ -1,8 +1,8 @@
 //! Libraries that are wrong in one way each. The linked one makes the call, and what it returned or left is then spoiled:
 //! a count, a refusal, an element of each buffer or beside it, work left dirty, other counts of conflicts, another part of
-//! the table.
+//! the table, and whatever is wrong about holes (`wrong_gaps`).
 
-use super::{must_differ, printed_table};
+use super::{gapped_triangle, must_differ, printed_table, wrong_gaps};
 use crate::agree;
 use crate::calls::{self, round_trips, Table};
 use crate::counts::conflicts;
@@ -16,7 +16,7 @@ use crate::service::{Buffer, Service};
 use haplotypes::Outcome::{Accepted, Refused};
 use std::ops::Range;
 
-struct Wrong {
+pub struct Wrong {
     service: Service,
     /// what the comparison must say of it
     said: String,
@@ -28,7 +28,7 @@ type Spoil = Box<dyn Fn(&mut Call, &mut Returned, Buffers) + Sync>;
 
 /// The number of wrong libraries, each noticed by the comparison that the linked one passes.
 pub fn noticed() -> Result<usize, String> {
-    compared(&proved)?;
+    compared(&proved, &all_tables())?;
     let mut all = wrong_outcomes();
     all.extend(Service::ALL.into_iter().flat_map(wrong_elements));
     all.extend(dirty_works());
@@ -36,28 +36,46 @@ pub fn noticed() -> Result<usize, String> {
     all.extend(counts_left());
     all.extend(counts_of_refused());
     all.extend(wrong_parts());
+    let of_gaps = wrong_gaps::all();
+    // without holes between calls none of these would be noticed
+    of_gaps.iter().try_for_each(|wrong| compared(&wrong.library(), &gapless_tables()))?;
+    all.extend(of_gaps);
     all.iter().try_for_each(must_be_noticed)?;
     Ok(all.len() + wrong_round_trips()?)
 }
 
-/// The calls of a run about three tables: one error-free, one not, and one with conflicts on columns 32 to 127.
-fn compared(library: Library) -> Result<(), String> {
-    let pair = [record(1, 0, &[1]), record(2, 0, &[2])].concat();
-    let wide = [record(1, 32, &[1; CELLS]), record(2, 32, &[2; CELLS])].concat();
-    for bytes in [&pair, &printed_table(), &wide] {
+/// The calls of a run about some tables, and about the cells with each.
+fn compared(library: Library, tables: &[(Vec<u8>, Cells)]) -> Result<(), String> {
+    for (bytes, cells) in tables {
         let outcome = &expected::outcome(bytes)?;
-        calls::all(library, &Table { bytes, outcome }, &printed_cells(), &mut Rng::new(1))?;
+        calls::all(library, &Table { bytes, outcome }, cells, &mut Rng::new(1))?;
     }
     Ok(())
+}
+
+/// One error-free, one not, and one with conflicts on columns 32 to 127.
+fn gapless_tables() -> Vec<(Vec<u8>, Cells)> {
+    let pair = [record(1, 0, &[1]), record(2, 0, &[2])].concat();
+    let wide = [record(1, 32, &[1; CELLS]), record(2, 32, &[2; CELLS])].concat();
+    [pair, printed_table(), wide].map(|bytes| (bytes, printed_cells())).into()
+}
+
+fn all_tables() -> Vec<(Vec<u8>, Cells)> {
+    let gapped = wrong_gaps::tables().map(|bytes| (bytes, triangle_cells()));
+    gapless_tables().into_iter().chain(gapped).collect()
 }
 
 fn printed_cells() -> Cells {
     Cells { n: 3, cells: vec![1, 1, 0, 2, 1, 1, 0, 2, 2], tags: vec![10, 11, 12] }
 }
 
+fn triangle_cells() -> Cells {
+    Cells { n: 3, cells: vec![1, 2, 0, 0, 1, 2, 2, 0, 1], tags: vec![10, 11, 12] }
+}
+
 fn must_be_noticed(wrong: &Wrong) -> Result<(), String> {
     let name = wrong.service.name();
-    match compared(&wrong.library()) {
+    match compared(&wrong.library(), &all_tables()) {
         Ok(()) => Err(format!("self-test: a wrong {name} passed: {:?}", wrong.said)),
         Err(difference) if difference.starts_with(name) && difference.contains(&wrong.said) => Ok(()),
         Err(difference) => Err(format!("self-test: a wrong {name} ({:?}) is reported as {difference}", wrong.said)),
@@ -65,11 +83,23 @@ fn must_be_noticed(wrong: &Wrong) -> Result<(), String> {
 }
 
 impl Wrong {
-    fn new(service: Service, spoil: impl Fn(&mut Call, &mut Returned, Buffers) + Sync + 'static) -> Wrong {
+    pub fn new(service: Service, spoil: impl Fn(&mut Call, &mut Returned, Buffers) + Sync + 'static) -> Wrong {
         Wrong { service, said: ": returned\n".to_string(), spoil: Box::new(spoil) }
     }
 
-    fn in_buffer(self, buffer: Buffer) -> Wrong {
+    /// Wrong in the outcome, and in what is left then.
+    pub fn outcome(
+        service: Service,
+        spoil: impl Fn(&mut Call, &mut haplotypes::Outcome, Buffers) + Sync + 'static,
+    ) -> Wrong {
+        Wrong::new(service, move |call, returned, before| {
+            if let Returned::Outcome(outcome) = returned {
+                spoil(call, outcome, before);
+            }
+        })
+    }
+
+    pub fn in_buffer(self, buffer: Buffer) -> Wrong {
         Wrong { said: format!(": in its {}, ", buffer.name()), ..self }
     }
 
@@ -95,13 +125,7 @@ fn wrong_outcomes() -> Vec<Wrong> {
         |outcome| if let Accepted(_) = outcome { Refused(1, 0) } else { outcome },
         |outcome| if let Refused(..) = outcome { Accepted(0) } else { outcome },
     ];
-    let spoiled = |service, other: Other| {
-        Wrong::new(service, move |_, returned, _| {
-            if let Returned::Outcome(outcome) = returned {
-                *outcome = other(*outcome);
-            }
-        })
-    };
+    let spoiled = |service, other: Other| Wrong::outcome(service, move |_, outcome, _| *outcome = other(*outcome));
     let services = Service::ALL.into_iter().filter(|&service| service != Service::Find);
     services.flat_map(|service| others.map(|other| spoiled(service, other))).collect()
 }
@@ -137,7 +161,7 @@ fn flipping(service: Service, buffer: Buffer, place: Place, refused: bool) -> Wr
     wrong.in_buffer(buffer)
 }
 
-fn is_refusal(returned: &Returned) -> bool {
+pub fn is_refusal(returned: &Returned) -> bool {
     matches!(returned, Returned::Outcome(Refused(..)))
 }
 
@@ -245,16 +269,26 @@ fn wrong_parts() -> Vec<Wrong> {
     others.map(spoiled).into()
 }
 
-/// A cell, a tag and a byte of a record that change on the way there or back, both ways round.
+/// A cell, a tag and a byte of a record that change on the way there or back, both ways round, without holes and with them;
+/// and far mates that get lost.
 fn wrong_round_trips() -> Result<usize, String> {
+    let places = [(Service::Unpack, Buffer::Cells), (Service::Unpack, Buffer::Tags), (Service::Pack, Buffer::Table)];
+    let flipped = places.map(|(service, buffer)| flipping(service, buffer, FIRST, false));
+    let lost = [wrong_gaps::near_cells(), wrong_gaps::near_records()];
+    let gapless = trips_noticed(&printed_table(), &printed_cells(), &flipped)?;
+    let gapped = [&flipped[..], &lost].map(|wrong| trips_noticed(&gapped_triangle(), &triangle_cells(), wrong));
+    gapped.into_iter().try_fold(gapless, |sum, noticed| Ok(sum + noticed?))
+}
+
+/// The number of round trips by wrong libraries, each noticed.
+fn trips_noticed(table: &[u8], cells: &Cells, wrong: &[Wrong]) -> Result<usize, String> {
     let both = |library: Library| {
         let rng = &mut Rng::new(1);
-        [round_trips::of_table(library, &printed_table(), rng), round_trips::of_cells(library, &printed_cells(), rng)]
+        [round_trips::of_table(library, table, rng), round_trips::of_cells(library, cells, rng)]
     };
     agree("round trips", &[Ok(true), Ok(true)], &both(&proved))?;
-    let places = [(Service::Unpack, Buffer::Cells), (Service::Unpack, Buffer::Tags), (Service::Pack, Buffer::Table)];
-    for wrong in places.map(|(service, buffer)| flipping(service, buffer, FIRST, false)) {
+    for wrong in wrong {
         both(&wrong.library()).into_iter().try_for_each(|compared| must_differ(compared.map(drop)))?;
     }
-    Ok(2 * places.len())
+    Ok(2 * wrong.len())
 }
