@@ -1,6 +1,6 @@
 -- C over the cell matrix is C over the table's bytes; what C returns and leaves.
 -- Assumes nothing.
-use mathlib.Core.Path.{_≡_, sym, ap, ap₂, _∙_}
+use mathlib.Core.Path.{_≡_, sym, ap, ap₂, subst, _∙_}
 use mathlib.Core.List.{List}
 use Prim.Native.Nat.{ℕ, _+_, _*_, _≤_, _<_}
 use native.Mathlib.Nat.{lt-of-lt-of-le}
@@ -12,13 +12,13 @@ use Rattle.records.specs.Record.{codeAt}
 use Rattle.records.specs.Table.{fragments, recordAt}
 use Rattle.records.specs.Outcome.{Verdict, accepted, refused}
 use Rattle.records.specs.Rules.{decide}
-use Rattle.below.proofs.BelowLaws.{length-tab, firstBelow-le}
+use Rattle.below.proofs.BelowLaws.{length-tab}
 use Rattle.below.proofs.RowLaws.{tab-ext}
 use Rattle.records.proofs.RuleLaws.{stage-last, stages-kept, stages-refused}
 use Rattle.records.proofs.PackLaws.{sound-fits}
 use Rattle.records.proofs.AcceptedLaws.{whole-records, accepted-sound, sized-count, sized-n, sized-m}
 use Rattle.conflicts.specs.Choice.{keepAll}
-use Rattle.conflicts.specs.Grid.{Grid, gridOf, withCells, coverage}
+use Rattle.conflicts.specs.Grid.{Grid, gridOf, withCells}
 use Rattle.matrix.specs.Algorithm.Matrix.{matrixGrid}
 use Rattle.conflicts.specs.Corrections.{cost, leastCostSides, correctedCell, corrected, changedCells}
 use Rattle.conflicts.specs.Answer.{answer, correctedGrid, correctionAnswer, correctedTable}
@@ -34,7 +34,8 @@ use Rattle.matrix.proofs.TableLaws.{cells-same, cells-cost, cells-leastCostSide
 use Rattle.matrix.proofs.AlikeLaws.{correctedCell-cells}
 use Rattle.slots.specs.Algorithm.Columns.{firstDeep}
 use Rattle.rewriting.specs.Algorithm.Letters.{OnSides, correctedCells}
-use Rattle.slots.proofs.DepthLaws.{first-deep, first-none}
+use Rattle.slots.specs.Algorithm.Spans.{Spanned, deepBy}
+use Rattle.slots.proofs.DepthLaws.{deep-is, first-deep, first-none}
 use Rattle.slots.proofs.GrantLaws.{first-same}
 use Rattle.rewriting.proofs.LetterLaws.{corrected-cell, corrected-two-bits}
 use Rattle.records.specs.Algorithm.Kept.{SizesKept, RecordsKept}
@@ -44,28 +45,25 @@ use Rattle.rewriting.specs.Algorithm.Rewriting.{rowIn, TwoBits, rewrittenTable}
 use Rattle.conflicts.proofs.SideLaws.{all-length}
 use Rattle.matrix.proofs.KeptLaws.{few, grid-is, table-codes}
 
--- rule 12 is kept where the search for its column ends past the last one
-pub shallow-columns : (m n : ℕ) (cells : List ℕ) {deep : ℕ} → deep ≡ firstDeep (matrixGrid m n cells) → n ≤ deep → firstDeep (matrixGrid m n cells) ≡ n
-unfolding firstDeep matrixGrid
-shallow-columns m n cells e h = let l = firstBelow-le n (λ c. 8 <? coverage (matrixGrid m n cells) c) in omega arith
-
 -- ---- the matrix and the bytes
 
 module _ {n m : ℕ} {table cells : List ℕ} (sized : SizesKept n m table) (kept : RecordsKept n table) (same : cells ≡ tableCells n table) where
   abbrev g : Grid
   g = matrixGrid m n cells
 
-  -- rule 12's column
-  pub table-deep : firstDeep (matrixGrid m n cells) ≡ firstDeep (gridOf n table)
-  unfolding firstDeep matrixGrid gridOf
-  table-deep =
-      ap firstDeep (grid-is sized same)
-      ∙ first-same n _ _ (λ c h. ap (λ (x : ℕ). 8 <? x) (cells-coverage n table (sized-n sized) (few sized same) c))
+  module _ {starts ends : List ℕ} (spanned : Spanned (matrixGrid m n cells) starts ends) where
+    -- rule 12's column, by where the fragments start and end
+    pub table-deep : deepBy m n starts ends ≡ firstDeep (gridOf n table)
+    unfolding firstDeep matrixGrid gridOf
+    table-deep =
+        deep-is g starts ends spanned
+        ∙ ap firstDeep (grid-is sized same)
+        ∙ first-same n _ _ (λ c h. ap (λ (x : ℕ). 8 <? x) (cells-coverage n table (sized-n sized) (few sized same) c))
 
-  -- no column is too deep
-  pub table-shallow : firstDeep (matrixGrid m n cells) ≡ n → NoneDeep (matrixGrid m n cells)
-  unfolding matrixGrid
-  table-shallow e = first-none g e
+    -- no column is too deep
+    pub table-shallow : n ≤ deepBy m n starts ends → NoneDeep (matrixGrid m n cells)
+    unfolding matrixGrid
+    table-shallow past = first-none g (subst (λ (x : ℕ). n ≤ x) (deep-is g starts ends spanned) past)
 
   -- C's number
   pub table-count : {r : ℕ} → r ≡ cost 2 (matrixGrid m n cells) (leastCostSides 2 (matrixGrid m n cells)) → r ≡ changedCells (gridOf n table) (gridOf n (correctedTable n table))
@@ -169,7 +167,7 @@ module _ (n : ℕ) (table lent output work : List ℕ) where
     correction-deep e h = left-at _ (after-stages _ ∙ deep-refused (gridOf n table) _ (first-deep (gridOf n table) (rw (sym e) h)) ∙ ap (refused 12) (sym e))
 
     -- every rule is kept, and the work is done
-    pub correction-accepts : firstDeep (gridOf n table) ≡ n → {k : ℕ} {w a t : List ℕ} → k ≡ changedCells (gridOf n table) (gridOf n (correctedTable n table)) → w ≡ replicate (length work) 0
+    pub correction-accepts : n ≤ firstDeep (gridOf n table) → {k : ℕ} {w a t : List ℕ} → k ≡ changedCells (gridOf n table) (gridOf n (correctedTable n table)) → w ≡ replicate (length work) 0
         → a ≡ correctionAnswer (gridOf n table) → t ≡ correctedTable n table → CorrectionLeft (accepted k) w a t
     unfolding correctionsLeaves gridOf
     correction-accepts e i j l o =

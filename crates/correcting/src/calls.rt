@@ -10,7 +10,8 @@ ghost use Rattle.conflicts.specs.Corrections.{changedCells};
 ghost use Rattle.conflicts.specs.Answer.{answerSize, correctionAnswer, correctedTable};
 ghost use Rattle.conflicts.specs.Services.{correctionsLeaves};
 ghost use Rattle.matrix.specs.Algorithm.Cells.{tableCells};
-ghost use Rattle.slots.specs.Algorithm.Columns.{firstDeep};
+ghost use Rattle.conflicts.specs.Served.{NoneDeep};
+ghost use Rattle.slots.specs.Algorithm.Spans.{Spanned};
 ghost use Rattle.records.specs.Algorithm.Kept.{SizesKept, RecordsKept};
 ghost use Rattle.correcting.specs.Algorithm.Stages.{CorrectionKept};
 ghost use Rattle.correcting.specs.Meanings.{CorrectionSays};
@@ -23,6 +24,7 @@ use ranks::table;
 use records::Outcome;
 use rewriting::correct_cells;
 use rewriting::fill_records;
+use slots::fill_spans;
 use slots::first_deep;
 use stages::correction_fault;
 
@@ -32,6 +34,8 @@ fn correct_calls(
     m: usize,
     table: &[u8],
     cells: &[u8],
+    starts: &[usize],
+    ends: &[usize],
     cols: &[u8],
     sides: &mut [u8],
     fixed: &mut [u8],
@@ -40,14 +44,14 @@ fn correct_calls(
 ) -> usize
     requires { ⌜ SizesKept n m (now table) × RecordsKept n (now table) ⌝ }
     requires { ⌜ (now cells ≡ tableCells n (now table)) × (now cols ≡ keepAll n) ⌝ }
-    requires { ⌜ firstDeep (matrixGrid m n (now cells)) ≡ n ⌝ }
+    requires { ⌜ Spanned (matrixGrid m n (now cells)) (now starts) (now ends) × NoneDeep (matrixGrid m n (now cells)) ⌝ }
     requires { ⌜ (length (now sides) ≡ m) × (length (now fixed) ≡ 16384) ⌝ }
     requires { ⌜ (length (now answer) ≡ answerSize m n) × (length (now corrected) ≡ 32 * m) ⌝ }
     ensures count { λ r. ⌜ r ≡ changedCells (gridOf n (now (table .entry))) (gridOf n (correctedTable n (now (table .entry)))) ⌝ }
     ensures answer { λ _. ⌜ now (answer .exit) ≡ correctionAnswer (gridOf n (now (table .entry))) ⌝ }
     ensures corrected { λ _. ⌜ now (corrected .exit) ≡ correctedTable n (now (table .entry)) ⌝ }
 {
-    let count = least_cost_sides(m, n, cells, sides);
+    let count = least_cost_sides(m, n, cells, starts, ends, sides);
     correct_cells(m, n, cells, sides, fixed);
     fill_answer(m, n, fixed, cols, sides, answer);
     fill_records(table, fixed, corrected);
@@ -60,12 +64,14 @@ fn correct_table(
     m: usize,
     table: &[u8],
     cells: &[u8],
+    starts: &[usize],
+    ends: &[usize],
     answer: &mut [u8],
     corrected: &mut [u8],
 ) -> usize
     requires { ⌜ SizesKept n m (now table) × RecordsKept n (now table) ⌝ }
     requires { ⌜ now cells ≡ tableCells n (now table) ⌝ }
-    requires { ⌜ firstDeep (matrixGrid m n (now cells)) ≡ n ⌝ }
+    requires { ⌜ Spanned (matrixGrid m n (now cells)) (now starts) (now ends) × NoneDeep (matrixGrid m n (now cells)) ⌝ }
     requires { ⌜ (length (now answer) ≡ answerSize m n) × (length (now corrected) ≡ 32 * m) ⌝ }
     ensures count { λ r. ⌜ r ≡ changedCells (gridOf n (now (table .entry))) (gridOf n (correctedTable n (now (table .entry)))) ⌝ }
     ensures answer { λ _. ⌜ now (answer .exit) ≡ correctionAnswer (gridOf n (now (table .entry))) ⌝ }
@@ -79,6 +85,8 @@ fn correct_table(
         m,
         table,
         cells,
+        starts,
+        ends,
         &cols[0..n],
         &mut sides[0..m],
         &mut fixed,
@@ -104,11 +112,14 @@ fn correct_shallow(
     ensures answer { λ _. ⌜ now (answer .exit) ≡ correctionsLeaves n (now (table .entry)) (now (answer .entry)) (now (corrected .entry)) (now (work .entry)) .answer ⌝ }
     ensures corrected { λ _. ⌜ now (corrected .exit) ≡ correctionsLeaves n (now (table .entry)) (now (answer .entry)) (now (corrected .entry)) (now (work .entry)) .table ⌝ }
 {
-    let deep = first_deep(m, n, cells);
+    let mut starts = [0usize; 128];
+    let mut ends = [0usize; 128];
+    fill_spans(m, n, cells, &mut starts, &mut ends);
+    let deep = first_deep(m, n, &starts, &ends);
     if deep < n {
         return Outcome::Refused(12, deep);
     }
-    let count = correct_table(n, m, table, cells, answer, corrected);
+    let count = correct_table(n, m, table, cells, &starts, &ends, answer, corrected);
     table::clear(work);
     Outcome::Accepted(count)
 }

@@ -1,12 +1,9 @@
 // Rule 12: the lowest column that more than 8 fragments cover.
-use crate::spans::fill_spans;
 ghost use mathlib.Core.Path.{_≡_};
 ghost use Prim.Native.Nat.{_≤_};
 ghost use lib.ListN.{length};
-ghost use Rattle.below.specs.Below.{bit, firstBelow, _<?_, _≤?_, _and_};
-ghost use Rattle.matrix.specs.Algorithm.Matrix.{matrixGrid, Matrix};
-ghost use Rattle.slots.specs.Algorithm.Columns.{firstDeep};
-ghost use Rattle.slots.specs.Algorithm.Spans.{coveredBy};
+ghost use Rattle.below.specs.Below.{bit, _<?_, _≤?_, _and_};
+ghost use Rattle.slots.specs.Algorithm.Spans.{coveredBy, deepBy};
 
 // 1 where a fragment from s to e covers column c, and 0 where it does not.
 fn covers_column(s: usize, e: usize, c: usize) -> usize
@@ -35,9 +32,9 @@ fn covering(m: usize, starts: &[usize], ends: &[usize], c: usize) -> usize
 }
 
 // The lowest column that more than 8 fragments cover, by where they start and end, and n where there is none.
-fn deep_from(m: usize, n: usize, starts: &[usize], ends: &[usize]) -> usize
+pub fn first_deep(m: usize, n: usize, starts: &[usize], ends: &[usize]) -> usize
     requires { ⌜ (m ≤ 128) × (length (now starts) ≡ 128) × (length (now ends) ≡ 128) ⌝ }
-    ensures { λ r. ⌜ r ≡ firstBelow n (λ c. 8 <? coveredBy m (now (starts .entry)) (now (ends .entry)) c) ⌝ }
+    ensures { λ r. ⌜ r ≡ deepBy m n (now (starts .entry)) (now (ends .entry)) ⌝ }
 {
     let mut c = 0;
     while c < n {
@@ -47,15 +44,4 @@ fn deep_from(m: usize, n: usize, starts: &[usize], ends: &[usize]) -> usize
         c += 1;
     }
     n
-}
-
-// The lowest column that the stretches of more than 8 fragments cover, and n where there is none.
-pub fn first_deep(m: usize, n: usize, cells: &[u8]) -> usize
-    requires { ⌜ Matrix m n (now cells) ⌝ }
-    ensures { λ r. ⌜ r ≡ firstDeep (matrixGrid m n (now (cells .entry))) ⌝ }
-{
-    let mut starts = [0usize; 128];
-    let mut ends = [0usize; 128];
-    fill_spans(m, n, cells, &mut starts, &mut ends);
-    deep_from(m, n, &starts, &ends)
 }

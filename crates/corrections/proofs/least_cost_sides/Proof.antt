@@ -10,45 +10,38 @@ use Rattle.corrections.proofs.SideLaws.{least-sides}
 use Rattle.corrections.proofs.least_cost_sides.Statement.{statement}
 use Rattle.corrections.proofs.least_cost_sides.Tie as tie
 
-fill-spans-requires : tie.Need-fill-spans-requires
-fill-spans-requires c κs =
-    let start = c .before .before .before .before in
-    (start .pre .0, refl, refl)
-
 fill-slots-requires : tie.Need-fill-slots-requires
 unfolding matrixGrid
 fill-slots-requires c κs =
-    let fill-spans = c .before .before .before .before .before .fill-spans in
-    let s = c .before .before .before .before .before .before .before .before .before .before in
+    let s = c .before .before .before .before .before in
     let a = s .args in
-    (s .pre .0, fill-spans .ensures, s .pre .1, none-granted (matrixGrid (a .m) (a .n) (a .cells .now)) (s .pre .0 .rows) _ refl (λ i. zeros-at 128 i))
+    (s .pre .0, s .pre .1, s .pre .2, none-granted (matrixGrid (a .m) (a .n) (a .cells .now)) (s .pre .0 .rows) _ refl (λ i. zeros-at 128 i))
 
 all-columns-requires : tie.Need-all-columns-requires
 unfolding matrixGrid
 all-columns-requires c κs =
-    let fill-slots = c .before .before .before .before .before .before .before .fill-slots in
-    let fill-spans = c .before .before .before .before .before .before .before .before .before .before .before .before .before .fill-spans in
-    let s = c .before .before .before .before .before .before .before .before .before .before .before .before .before .before .before .before .before .before in
+    let fill-slots = c .before .before .before .before .before .fill-slots in
+    let s = c .before .before .before .before .before .before .before .before .before .before .before in
     let a = s .args in
     let slotted = fill-slots .ensures in (
-      record { matrix = s .pre .0; shallow = s .pre .1; spanned = fill-spans .ensures; slotted = slotted },
+      record { matrix = s .pre .0; shallow = s .pre .2; spanned = s .pre .1; slotted = slotted },
       record { counts-size = refl; highs-size = refl; lows-size = refl },
       holds-start (matrixGrid (a .m) (a .n) (a .cells .now)) _ slotted _ (weights-none 256 256 256),
     )
 
 decode-requires : tie.Need-decode-requires
-decode-requires c κs = let s = c .before .before .before .before .before .before .before .before .before .before .before .before .before .before .before .before .before .before .before .before .before .before .before .before .before .before .before in (s .pre .0 .rows, s .pre .2)
+decode-requires c κs = let s = c .before .before .before .before .before .before .before .before .before .before .before .before .before .before .before .before .before .before .before .before in (s .pre .0 .rows, s .pre .3)
 
 returns : tie.Need-returns
 unfolding matrixGrid
 returns c =
     let get = c .before .before .before .before .before .get in
     let all-columns = c .before .before .before .before .before .before .before .before .before .before .before .before .all-columns in
-    let fill-slots = c .before .before .before .before .before .before .before .before .before .before .before .before .before .before .before .before .before .before .before .before .fill-slots in
-    let s = c .before .before .before .before .before .before .before .before .before .before .before .before .before .before .before .before .before .before .before .before .before .before .before .before .before .before .before .before .before .before .before in
+    let fill-slots = c .before .before .before .before .before .before .before .before .before .before .before .before .before .before .before .before .before .before .fill-slots in
+    let s = c .before .before .before .before .before .before .before .before .before .before .before .before .before .before .before .before .before .before .before .before .before .before .before .before in
     let a = s .args in
     let r = get in
-    let m = least-sides (matrixGrid (a .m) (a .n) (a .cells .now)) (s .pre .0 .rows) (r .result) (search needs) (search needs) (r .ensures ∙ holds-least (matrixGrid (a .m) (a .n) (a .cells .now)) _ (fill-slots .ensures) _ (all-columns .ensures)) in
+    let m = least-sides (matrixGrid (a .m) (a .n) (a .cells .now)) (s .pre .0 .rows) (r .result) (r .ok .1 .1 .1 .0 .1) (r .ok .1 .1 .1 .1 .0 .1) (r .ensures ∙ holds-least (matrixGrid (a .m) (a .n) (a .cells .now)) _ (fill-slots .ensures) _ (all-columns .ensures)) in
     (c .before .before .before .decode .ensures ∙ m .0, c .cost .ensures ∙ m .1)
 
 pub least-cost-sides-spec : {M : Type 1} → statement M
@@ -56,14 +49,7 @@ least-cost-sides-spec =
     tie.close
     (tie.spec
     (λ c. search needs)
-    (λ c. search needs)
-    fill-spans-requires
-    (λ c. search needs)
-    (λ c. search needs)
-    (λ c. search needs)
     fill-slots-requires
-    (λ c. search needs)
-    (λ c. search needs)
     (λ c. search needs)
     (λ c. search needs)
     (λ c. search needs)

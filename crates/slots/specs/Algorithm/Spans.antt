@@ -21,6 +21,10 @@ pub record Spanned (g : Grid) (starts ends : List ℕ) : Type 0 where
 unfoldable pub coveredBy : ℕ → List ℕ → List ℕ → ℕ → ℕ
 coveredBy m starts ends c = countBelow m (λ i. nth starts i ≤? c and c <? nth ends i)
 
+-- the lowest of n columns that more than 8 of them cover, and n where there is none
+unfoldable pub deepBy : ℕ → ℕ → List ℕ → List ℕ → ℕ
+deepBy m n starts ends = firstBelow n (λ c. 8 <? coveredBy m starts ends c)
+
 -- a fragment from s to e at position x, with slot k: it covers column c, entered before the turn, and its slot is b
 unfoldable pub hitSlot : ℕ → ℕ → ℕ → ℕ → ℕ → ℕ → ℕ → Bool
 hitSlot s e x k c turn b = s ≤? c and c <? e and s * 256 + x <? turn and k == b

@@ -3,23 +3,21 @@
 use native.Mathlib.Omega.{arith}
 use Rattle.records.proofs.AcceptedLaws.{sized-count, sized-m}
 use Rattle.matrix.proofs.KeptLaws.{table-matrix}
-use Rattle.correcting.proofs.TableCorrectionLaws.{table-shallow, table-count, table-sides, table-two-bits, table-phasable, table-correction, table-records}
+use Rattle.correcting.proofs.TableCorrectionLaws.{table-count, table-sides, table-two-bits, table-phasable, table-correction, table-records}
 use borrow.Author.Needs.{needs}
 use Rattle.correcting.proofs.calls.correct_calls.Statement.{statement}
 use Rattle.correcting.proofs.calls.correct_calls.Tie as tie
 
 least-cost-sides-requires : tie.Need-least-cost-sides-requires
 least-cost-sides-requires c κs =
-    let s = c .before .before .before .before .before .before .before .before in
-    let sized = s .pre .0 .0 in
-    let kept = s .pre .0 .1 in
-    let same = s .pre .1 .0 .0 in
-    (table-matrix sized same, table-shallow sized kept same (s .pre .1 .1 .0), s .pre .1 .1 .1 .0 .0)
+    let s = c .before .before .before .before .before .before .before .before .before .before in
+    let spans = s .pre .1 .1 .0 in
+    (table-matrix (s .pre .0 .0) (s .pre .1 .0 .0), spans .0, spans .1, s .pre .1 .1 .1 .0 .0)
 
 correct-cells-requires : tie.Need-correct-cells-requires
 correct-cells-requires c κs =
     let least-cost-sides = c .before .before .before .before .least-cost-sides in
-    let s = c .before .before .before .before .before .before .before .before .before .before .before .before .before in
+    let s = c .before .before .before .before .before .before .before .before .before .before .before .before .before .before .before in
     let sized = s .pre .0 .0 in
     let kept = s .pre .0 .1 in
     let same = s .pre .1 .0 .0 in
@@ -29,7 +27,7 @@ fill-answer-requires : tie.Need-fill-answer-requires
 fill-answer-requires c κs =
     let correct-cells = c .before .before .before .before .before .correct-cells in
     let least-cost-sides = c .before .before .before .before .before .before .before .before .before .before .least-cost-sides in
-    let s = c .before .before .before .before .before .before .before .before .before .before .before .before .before .before .before .before .before .before .before in
+    let s = c .before .before .before .before .before .before .before .before .before .before .before .before .before .before .before .before .before .before .before .before .before in
     let sized = s .pre .0 .0 in
     let kept = s .pre .0 .1 in
     let same = s .pre .1 .0 .0 in
@@ -39,7 +37,7 @@ fill-records-requires : tie.Need-fill-records-requires
 fill-records-requires c κs =
     let correct-cells = c .before .before .before .before .before .before .before .before .before .before .correct-cells in
     let least-cost-sides = c .before .before .before .before .before .before .before .before .before .before .before .before .before .before .before .least-cost-sides in
-    let s = c .before .before .before .before .before .before .before .before .before .before .before .before .before .before .before .before .before .before .before .before .before .before .before .before in
+    let s = c .before .before .before .before .before .before .before .before .before .before .before .before .before .before .before .before .before .before .before .before .before .before .before .before .before .before in
     let sized = s .pre .0 .0 in
     let kept = s .pre .0 .1 in
     let same = s .pre .1 .0 .0 in
@@ -53,7 +51,7 @@ returns c =
     let fill-answer = c .before .before .before .before .before .before .before .fill-answer in
     let correct-cells = c .before .before .before .before .before .before .before .before .before .before .before .before .before .correct-cells in
     let least-cost-sides = c .before .before .before .before .before .before .before .before .before .before .before .before .before .before .before .before .before .before .least-cost-sides in
-    let s = c .before .before .before .before .before .before .before .before .before .before .before .before .before .before .before .before .before .before .before .before .before .before .before .before .before .before .before in
+    let s = c .before .before .before .before .before .before .before .before .before .before .before .before .before .before .before .before .before .before .before .before .before .before .before .before .before .before .before .before .before in
     let sized = s .pre .0 .0 in
     let kept = s .pre .0 .1 in
     let same = s .pre .1 .0 .0 in

@@ -13,12 +13,12 @@ use Rattle.correcting.proofs.calls.correct_table.Tie as tie
 
 part-correct-calls-end : tie.Need-part-correct-calls-end
 part-correct-calls-end c =
-    let start = c .before .before .before .before .before .before .before .before in
+    let start = c .before .before .before .before .before .before .before .before .before .before in
     let e = ap length (c .before .before .before .all-kept .ensures) ∙ length-replicate {A = ℕ} 128 1 in let h = sized-n (start .pre .0 .0) in omega arith
 
 part-sides-end : tie.Need-part-sides-end
 part-sides-end c =
-    let start = c .before .before .before .before .before .before .before .before .before in
+    let start = c .before .before .before .before .before .before .before .before .before .before .before in
     let e = ap length (c .before .before .before .all-kept2 .ensures) ∙ length-replicate {A = ℕ} 128 1 in let h = sized-m (start .pre .0 .0) in omega arith
 
 correct-calls-requires : tie.Need-correct-calls-requires
@@ -26,7 +26,7 @@ correct-calls-requires c κs =
     let blank-cells = c .before .before .before .before .before .before .blank-cells in
     let all-kept2 = c .before .before .before .before .before .before .before .all-kept2 in
     let all-kept = c .before .before .before .before .before .before .before .before .all-kept in
-    let s = c .before .before .before .before .before .before .before .before .before .before .before .before .before in
+    let s = c .before .before .before .before .before .before .before .before .before .before .before .before .before .before .before in
     let sized = s .pre .0 .0 in (
       s .pre .0,
       (
