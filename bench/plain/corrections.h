@@ -1,4 +1,4 @@
-// The least corrections: the elimination over columns with at most 8 fragments on each.
+// The least corrections: the elimination over columns that at most 8 fragments cover.
 #ifndef CORRECTIONS_H
 #define CORRECTIONS_H
 #include "phasing.h"
@@ -6,20 +6,10 @@
 
 enum { SLOTS = 8, MASKS = 1 << SLOTS };
 
-// Where the fragments start and end, and the slot of each, which no other fragment has that covers one of its columns.
+// Each fragment's first call and one past its last, between which it covers every column, and its slot, which no other has that covers one of these.
 typedef struct {
     size_t starts[MOST], ends[MOST], slots[MOST];
 } spans;
-
-// The lowest column with more than 8 calls, and n where there is none.
-static size_t first_deep(size_t m, size_t n, const uint8_t *cells) {
-    for (size_t c = 0; c < n; c++) {
-        size_t calls = 0;
-        for (size_t i = 0; i < m; i++) calls += is_call(cells[i * MOST + c]);
-        if (calls > SLOTS) return c;
-    }
-    return n;
-}
 
 static void fill_spans(size_t m, size_t n, const uint8_t *cells, spans *s) {
     for (size_t i = 0; i < m; i++) {
@@ -30,6 +20,16 @@ static void fill_spans(size_t m, size_t n, const uint8_t *cells, spans *s) {
         s->starts[i] = start;
         s->ends[i] = end;
     }
+}
+
+// The lowest column that more than 8 fragments cover, holes included, and n where there is none.
+static size_t first_deep(size_t m, size_t n, const spans *s) {
+    for (size_t c = 0; c < n; c++) {
+        size_t covering = 0;
+        for (size_t i = 0; i < m; i++) covering += s->starts[i] <= c && c < s->ends[i];
+        if (covering > SLOTS) return c;
+    }
+    return n;
 }
 
 // Whether a fragment that entered before f has slot b at column c.
@@ -78,19 +78,17 @@ static void enter(ranks t, size_t f, size_t b) {
 }
 
 // The first side list of least cost.
-static void least_cost_sides(size_t m, size_t n, const uint8_t *cells, uint8_t *sides) {
-    spans s;
+static void least_cost_sides(size_t m, size_t n, const uint8_t *cells, spans *s, uint8_t *sides) {
     uint16_t counts[MASKS] = {0};
     uint64_t highs[MASKS] = {0}, lows[MASKS] = {0};
     uint8_t letters[SLOTS];
     ranks t = {counts, highs, lows};
-    fill_spans(m, n, cells, &s);
-    fill_slots(m, n, &s);
+    fill_slots(m, n, s);
     for (size_t c = n; c-- > 0;) {
-        gather(m, cells, &s, c, letters);
+        gather(m, cells, s, c, letters);
         for (size_t mask = 0; mask < MASKS; mask++) counts[mask] += mask_cost(letters, mask);
         for (size_t f = m; f-- > 0;)
-            if (s.starts[f] == c) enter(t, f, s.slots[f]);
+            if (s->starts[f] == c) enter(t, f, s->slots[f]);
     }
     rank r = rank_get(t, 0);
     for (size_t p = 0; p < m; p++) sides[p] = 1 + rank_digit(r, p);
@@ -129,11 +127,13 @@ static outcome least_corrections(size_t n, const uint8_t *table, size_t length, 
     if (rest.number != 0) return rest;
     size_t m = rest.value, count = 0;
     uint8_t cells[MATRIX], cols[MOST], sides[MOST] = {0};
+    spans s;
     memset(cols, 1, MOST);
     fill_cells(table, m, MOST, cells);
-    size_t deep = first_deep(m, n, cells);
+    fill_spans(m, n, cells, &s);
+    size_t deep = first_deep(m, n, &s);
     if (deep < n) return refused(12, deep);
-    least_cost_sides(m, n, cells, sides);
+    least_cost_sides(m, n, cells, &s, sides);
     for (size_t c = 0; c < n; c++) count += correct(m, cells, sides, 1, c) + correct(m, cells, sides, 2, c);
     fill_answer(m, n, cells, cols, sides, answer);
     rewrite(table, m, cells, corrected);

@@ -9,24 +9,17 @@ static bool any_unknown(size_t n, const uint8_t *row) {
     return false;
 }
 
-static bool gapped(const uint8_t *row, size_t start, size_t end) {
-    for (size_t c = start; c < end; c++)
-        if (row[c] == HOLE) return true;
-    return false;
-}
-
 static bool tag_repeats(const uint32_t *tags, size_t i) {
     for (size_t h = 0; h < i; h++)
         if (tags[h] == tags[i]) return true;
     return false;
 }
 
-// Fragment i by 6, 4, 8, 9.
+// Fragment i by 6, 4, 9.
 static outcome fragment_fault(size_t n, const uint8_t *row, const uint32_t *tags, size_t i) {
     if (any_unknown(n, row)) return refused(6, i);
     size_t start = first_call(n, row), end = past_calls(n, row);
     if (end - start > CELLS) return refused(4, i);
-    if (gapped(row, start, end)) return refused(8, i);
     if (tag_repeats(tags, i)) return refused(9, i);
     return accepted(0);
 }

@@ -71,20 +71,21 @@ static bool tag_before(const uint8_t *table, size_t i) {
     return false;
 }
 
-static outcome record_fault(size_t n, const uint8_t *table, size_t i) {
+// Record i by 4 to 7 and 9, and by 8 where it must be gapless.
+static outcome record_fault(size_t n, const uint8_t *table, size_t i, bool gapless) {
     const uint8_t *record = table + RECORD * i;
     if (out_of_frame(n, record)) return refused(4, i);
     if (stray_bits(record)) return refused(5, i);
     if (any_code(record, NO_CALL)) return refused(6, i);
     if (open_end(record)) return refused(7, i);
-    if (any_code(record, HOLE)) return refused(8, i);
+    if (gapless && any_code(record, HOLE)) return refused(8, i);
     if (tag_before(table, i)) return refused(9, i);
     return accepted(0);
 }
 
-static outcome records_fault(size_t n, const uint8_t *table, size_t m) {
+static outcome records_fault(size_t n, const uint8_t *table, size_t m, bool gapless) {
     for (size_t i = 0; i < m; i++) {
-        outcome fault = record_fault(n, table, i);
+        outcome fault = record_fault(n, table, i, gapless);
         if (fault.number != 0) return fault;
     }
     return accepted(m);
@@ -97,10 +98,16 @@ static outcome size_fault(size_t n, size_t length) {
     return accepted(length / RECORD);
 }
 
-// A table by 3, 1, 2, then its records: the first fault, or the number of records.
+// A table by 3, 1, 2, then its records, which may have a hole between mates: the first fault, or the number of records.
 static outcome table_fault(size_t n, const uint8_t *table, size_t length) {
     outcome sizes = size_fault(n, length);
-    return sizes.number != 0 ? sizes : records_fault(n, table, sizes.value);
+    return sizes.number != 0 ? sizes : records_fault(n, table, sizes.value, false);
+}
+
+// The same for S and F, whose programmes need gapless records.
+static outcome gapless_fault(size_t n, const uint8_t *table, size_t length) {
+    outcome sizes = size_fault(n, length);
+    return sizes.number != 0 ? sizes : records_fault(n, table, sizes.value, true);
 }
 
 // The cells of a table's records in rows of a given width, holes elsewhere.

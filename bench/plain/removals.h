@@ -16,7 +16,7 @@ static outcome check(size_t n, const uint8_t *table, size_t length, uint8_t *ans
 }
 
 static outcome least_snp_removal(size_t n, const uint8_t *table, size_t length, uint16_t *work, size_t work_length, uint8_t *answer) {
-    outcome rest = table_fault(n, table, length);
+    outcome rest = gapless_fault(n, table, length);
     if (rest.number != 0) return rest;
     size_t m = rest.value;
     uint8_t cells[MATRIX], cols[MOST], kept[MOST];
@@ -29,7 +29,7 @@ static outcome least_snp_removal(size_t n, const uint8_t *table, size_t length, 
 }
 
 static outcome least_fragment_removal(size_t n, const uint8_t *table, size_t length, uint16_t *work, size_t work_length, uint8_t *answer) {
-    outcome rest = table_fault(n, table, length);
+    outcome rest = gapless_fault(n, table, length);
     if (rest.number != 0) return rest;
     size_t m = rest.value;
     uint8_t cells[MATRIX], cols[MOST], kept[MOST];

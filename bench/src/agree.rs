@@ -95,6 +95,7 @@ pub fn agree_on_all(all: &All) -> Result<String, String> {
 #[cfg(test)]
 mod tests {
     use super::*;
+    use crate::tables::table;
     use std::collections::BTreeSet;
 
     /// The numbers by which a service refuses what `--check` asks of it.
@@ -114,12 +115,39 @@ mod tests {
 
     #[test]
     fn every_rule_of_a_record_refuses_some_request() {
-        for service in [Service::Unpack, Service::Check, Service::S, Service::F, Service::ConflictCounts] {
+        for service in [Service::Unpack, Service::Check, Service::ConflictCounts] {
+            assert_eq!(refusals(service), [4, 5, 6, 7, 9]);
+        }
+        for service in [Service::S, Service::F] {
             assert_eq!(refusals(service), [4, 5, 6, 7, 8, 9]);
         }
-        assert_eq!(refusals(Service::C), [4, 5, 6, 7, 8, 9, 12]);
-        assert_eq!(refusals(Service::Pack), [4, 6, 8, 9]);
+        assert_eq!(refusals(Service::C), [4, 5, 6, 7, 9, 12]);
+        assert_eq!(refusals(Service::Pack), [4, 6, 9]);
         assert_eq!(refusals(Service::Find), []);
+    }
+
+    /// The outcome of all for a sound table.
+    fn sound(service: Service, kind: Kind) -> Outcome {
+        let request = Request { service, kind, seed: 1, form: Form::Sound };
+        agree(request, &ALL).unwrap_or_else(|message| panic!("{message}")).outcome
+    }
+
+    #[test]
+    fn s_and_f_refuse_mate_pairs() {
+        for kind in Kind::ALL.into_iter().filter(|kind| kind.is_gapped()) {
+            assert_eq!(sound(Service::S, kind), Outcome::Refused(8, 0));
+            assert_eq!(sound(Service::F, kind), Outcome::Refused(8, 0));
+        }
+    }
+
+    #[test]
+    fn c_counts_the_fragments_whose_stretch_covers_a_column() {
+        let called = |cells: &[u8]| cells.iter().any(|&code| code != 0);
+        let covers = |cells: &[u8], column: usize| called(&cells[..=column]) && called(&cells[column..]);
+        for kind in [Kind::Mates, Kind::Ends] {
+            let deep = table(kind, 1).first_deep(covers).expect("a column is too deep");
+            assert_eq!(sound(Service::C, kind), Outcome::Refused(12, deep));
+        }
     }
 
     /// The outcome of all for a request with other sizes.

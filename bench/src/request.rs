@@ -44,6 +44,7 @@ impl Request {
     pub fn must_be_accepted(&self) -> bool {
         match self.service {
             Service::Find => true,
+            Service::S | Service::F => self.form == Form::Sound && !self.kind.is_gapped(),
             Service::C => self.form == Form::Sound && self.kind.is_within_depth(),
             _ => self.form == Form::Sound,
         }

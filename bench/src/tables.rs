@@ -3,12 +3,14 @@
 use crate::random::Random;
 use haplotypes::RECORD;
 use std::fmt;
-use std::ops::RangeInclusive;
+use std::ops::{Range, RangeInclusive};
 
 /// The most fragments of a table, and the most columns.
 pub const MOST: usize = 128;
 const CELLS: usize = 96;
-/// The most calls on a column that C accepts.
+/// The fewest columns of two mates with a hole between them.
+const PAIR: usize = 3;
+/// The most fragments over a column that C accepts.
 const DEPTH: usize = 8;
 const A: u8 = 1;
 const B: u8 = 2;
@@ -28,17 +30,50 @@ pub enum Kind {
     Deep,
     /// Its parameters are drawn too, for a search.
     Drawn,
+    Mates,
+    ShallowMates,
+    /// Mates of one call each, so that a column has few calls and many stretches over it.
+    Ends,
 }
 
 impl Kind {
-    pub const ALL: [Kind; 12] = {
+    pub const ALL: [Kind; 15] = {
         use Kind::*;
-        [Typical, Clean, Short, Full, Random, Mixed, Uniform, Empty, Single, Shallow, Deep, Drawn]
+        [
+            Typical,
+            Clean,
+            Short,
+            Full,
+            Random,
+            Mixed,
+            Uniform,
+            Empty,
+            Single,
+            Shallow,
+            Deep,
+            Drawn,
+            Mates,
+            ShallowMates,
+            Ends,
+        ]
     };
 
     /// Whether C accepts its tables, whatever the seed.
     pub fn is_within_depth(self) -> bool {
-        matches!(self, Kind::Empty | Kind::Single | Kind::Shallow | Kind::Deep)
+        matches!(self, Kind::Empty | Kind::Single | Kind::Shallow | Kind::Deep | Kind::ShallowMates)
+    }
+
+    /// Whether its fragments are mate pairs, each with a hole between the mates.
+    pub fn is_gapped(self) -> bool {
+        self.longest_mate().is_some()
+    }
+
+    fn longest_mate(self) -> Option<usize> {
+        match self {
+            Kind::Mates | Kind::ShallowMates => Some(CELLS),
+            Kind::Ends => Some(1),
+            _ => None,
+        }
     }
 
     fn parameters(self, random: &mut Random) -> Parameters {
@@ -56,14 +91,20 @@ impl Kind {
             Kind::Shallow => (4..=10, 20, Haplotypes, Limited),
             Kind::Deep => (1..=96, 0, AtRandom, Tiled),
             Kind::Drawn => return drawn(random),
+            Kind::Mates => (16..=96, 20, Haplotypes, Anywhere),
+            Kind::ShallowMates => (PAIR..=96, 20, Haplotypes, TiledPairs),
+            Kind::Ends => (16..=96, 20, Haplotypes, Anywhere),
         };
-        Parameters { spans, errors_per_mille, letters, places }
+        Parameters { spans, errors_per_mille, letters, places, longest_mate: self.longest_mate() }
     }
 }
 
 impl fmt::Display for Kind {
     fn fmt(&self, out: &mut fmt::Formatter) -> fmt::Result {
-        out.write_str(&format!("{self:?}").to_lowercase())
+        match self {
+            Kind::ShallowMates => out.write_str("shallow mates"),
+            _ => out.write_str(&format!("{self:?}").to_lowercase()),
+        }
     }
 }
 
@@ -83,6 +124,8 @@ enum Places {
     Limited,
     /// Rows, with 8 fragments on each column.
     Tiled,
+    /// Rows of mate pairs, with at most 8 over a column.
+    TiledPairs,
     /// Fragment i at column i.
     Diagonal,
 }
@@ -92,6 +135,8 @@ struct Parameters {
     errors_per_mille: usize,
     letters: Letters,
     places: Places,
+    /// The most calls of each of two mates; none for fragments without a hole.
+    longest_mate: Option<usize>,
 }
 
 fn drawn(random: &mut Random) -> Parameters {
@@ -99,7 +144,7 @@ fn drawn(random: &mut Random) -> Parameters {
     let errors_per_mille = if random.below(2) == 1 { 0 } else { random.below(100) };
     let letters = [Letters::Haplotypes, Letters::AtRandom, Letters::AllA][random.below(3)];
     let places = [Places::Anywhere, Places::Limited, Places::Tiled][random.below(3)];
-    Parameters { spans: a.min(b)..=a.max(b), errors_per_mille, letters, places }
+    Parameters { spans: a.min(b)..=a.max(b), errors_per_mille, letters, places, longest_mate: None }
 }
 
 /// The records, and what unpack makes of them.
@@ -107,6 +152,14 @@ pub struct Table {
     pub records: Vec<u8>,
     pub cells: Vec<u8>,
     pub tags: Vec<u32>,
+}
+
+#[cfg(test)]
+impl Table {
+    /// The lowest column for which `counts` says yes of the cells of over 8 fragments.
+    pub fn first_deep(&self, counts: impl Fn(&[u8], usize) -> bool) -> Option<usize> {
+        (0..MOST).find(|&column| self.cells.chunks(MOST).filter(|cells| counts(cells, column)).count() > DEPTH)
+    }
 }
 
 pub fn table(kind: Kind, seed: u64) -> Table {
@@ -118,6 +171,7 @@ pub fn table(kind: Kind, seed: u64) -> Table {
     let mut generator = Generator { random, parameters, haplotype, table };
     match generator.parameters.places {
         Places::Tiled => generator.tile(),
+        Places::TiledPairs => generator.tile_pairs(),
         _ => generator.scatter(),
     }
     generator.table
@@ -169,14 +223,37 @@ impl Generator {
         }
     }
 
+    /// Eight rows, of 8 and of 24 mate pairs in turn, cut at random: the first of a row are mostly the longest.
+    fn tile_pairs(&mut self) {
+        let mut p = 0;
+        for pairs in [8, 24].repeat(DEPTH / 2) {
+            let mut start = 0;
+            for left in (0..pairs).rev() {
+                let most = (MOST - start - PAIR * left).min(CELLS);
+                let span = if left == 0 { most } else { PAIR + self.random.below(most - PAIR + 1) };
+                self.write(p, start, span);
+                start += span;
+                p += 1;
+            }
+        }
+    }
+
+    /// The hole between a fragment's mates, each of which has less than half of the span; empty in a gapless fragment.
+    fn hole(&mut self, span: usize) -> Range<usize> {
+        let Some(longest) = self.parameters.longest_mate else { return 0..0 };
+        let most = longest.min((span - 1) / 2);
+        1 + self.random.below(most)..span - 1 - self.random.below(most)
+    }
+
     /// Fragment p's calls from a start over a span, of one of two opposite haplotypes.
     fn write(&mut self, p: usize, start: usize, span: usize) {
         let other = self.random.below(2) == 1;
+        let hole = self.hole(span);
         let record = &mut self.table.records[RECORD * p..RECORD * (p + 1)];
         record[0] = p as u8;
         record[4] = if span == 0 { 0 } else { start as u8 };
         record[6] = span as u8;
-        for i in 0..span {
+        for i in (0..span).filter(|i| !hole.contains(i)) {
             let erroneous = self.random.below(1000) < self.parameters.errors_per_mille;
             let code = match self.parameters.letters {
                 Letters::Haplotypes if other != erroneous => A + B - self.haplotype[start + i],
@@ -204,13 +281,28 @@ mod tests {
     use super::*;
     use haplotypes::{unpack, Outcome};
 
-    /// The figures of docs/PERFORMANCE.md are those of the very same tables: FNV-1a over all kinds and seeds 1 to 5.
+    /// FNV-1a over the kinds with holes or those without, and seeds 1 to 5.
+    fn sum(gapped: bool) -> u64 {
+        let kinds = Kind::ALL.into_iter().filter(|kind| kind.is_gapped() == gapped);
+        let tables = kinds.flat_map(|kind| (1..=5).map(move |seed| table(kind, seed)));
+        let bytes = tables.flat_map(|table| table.records);
+        bytes.fold(0xcbf29ce484222325, |sum, byte| (sum ^ byte as u64).wrapping_mul(0x100000001b3))
+    }
+
+    /// The figures of docs/PERFORMANCE.md are those of the very same tables.
     #[test]
     fn tables_stay_the_same() {
-        let tables = Kind::ALL.into_iter().flat_map(|kind| (1..=5).map(move |seed| table(kind, seed)));
-        let bytes = tables.flat_map(|table| table.records);
-        let sum = bytes.fold(0xcbf29ce484222325, |sum: u64, byte| (sum ^ byte as u64).wrapping_mul(0x100000001b3));
-        assert_eq!(sum, 0x8992d40bdcf7c623);
+        assert_eq!((sum(false), sum(true)), (0x8992d40bdcf7c623, 0xf5f73d36d7438132));
+    }
+
+    #[test]
+    fn gapped_tables_are_of_mate_pairs() {
+        for kind in Kind::ALL.into_iter().filter(|kind| kind.is_gapped()) {
+            for cells in table(kind, 1).cells.chunks(MOST) {
+                let mates = cells.split(|&code| code == 0).filter(|calls| !calls.is_empty());
+                assert_eq!(mates.count(), 2, "{kind}");
+            }
+        }
     }
 
     #[test]

@@ -129,14 +129,14 @@ impl Trial {
 const ROWS: [(Service, &[Kind]); 8] = {
     use Kind::*;
     [
-        (Service::Unpack, &[Typical, Full, Empty]),
-        (Service::Pack, &[Typical, Full, Empty]),
+        (Service::Unpack, &[Typical, Full, Empty, Mates]),
+        (Service::Pack, &[Typical, Full, Empty, Mates]),
         (Service::Find, &[Typical]),
-        (Service::Check, &[Typical, Random, Clean, Uniform, Empty, Single]),
+        (Service::Check, &[Typical, Random, Clean, Uniform, Empty, Single, Mates]),
         (Service::S, &[Typical, Random, Clean, Full, Shallow]),
         (Service::F, &[Typical, Random, Clean, Mixed, Uniform, Single]),
-        (Service::C, &[Shallow, Deep, Single]),
-        (Service::ConflictCounts, &[Typical, Random, Clean, Uniform, Empty, Single]),
+        (Service::C, &[Shallow, Deep, Single, ShallowMates]),
+        (Service::ConflictCounts, &[Typical, Random, Clean, Uniform, Empty, Single, Mates]),
     ]
 };
 

@@ -4,7 +4,7 @@ use crate::agree::{agree, agree_on_all, requests, ALL, LIBRARY};
 use crate::buffers::{Buffers, Guarded, GUARD};
 use crate::request::{Form, Request};
 use crate::services::{Call, Implementation, Service};
-use crate::tables::Kind;
+use crate::tables::{table, Kind};
 use crate::timing::{measure, Effort};
 use haplotypes::Outcome;
 use std::cell::Cell;
@@ -14,15 +14,22 @@ fn request(service: Service, kind: Kind, form: Form) -> Request {
     Request { service, kind, seed: 2, form }
 }
 
-/// Every service on a table that it accepts.
-fn accepted() -> [Request; 8] {
-    Service::ALL.map(|service| request(service, Kind::Shallow, Form::Sound))
+/// Every service on gapless fragments and on mate pairs.
+fn sound() -> impl Iterator<Item = Request> {
+    let kinds = [Kind::Shallow, Kind::ShallowMates].into_iter();
+    kinds.flat_map(|kind| Service::ALL.map(|service| request(service, kind, Form::Sound)))
 }
 
-/// Every service that refuses, on a table that it refuses.
+/// Every service on a table that it accepts, and on mate pairs if it takes them.
+fn accepted() -> impl Iterator<Item = Request> {
+    sound().filter(Request::must_be_accepted)
+}
+
+/// Every service that refuses, on a table that it refuses, and on mate pairs if it does not take them.
 fn refused() -> impl Iterator<Item = Request> {
     let services = Service::ALL.into_iter().filter(|&service| service != Service::Find);
-    services.map(|service| request(service, Kind::Shallow, Form::Repeated))
+    let repeated = services.map(|service| request(service, Kind::Shallow, Form::Repeated));
+    repeated.chain(sound().filter(|request| !request.must_be_accepted()))
 }
 
 fn see(noticed: Result<(), String>, name: &str, request: Request) {
@@ -74,7 +81,7 @@ fn each_bit_is_noticed(request: Request) {
 
 #[test]
 fn a_flipped_bit_of_an_acceptance() {
-    accepted().into_iter().for_each(each_bit_is_noticed);
+    accepted().for_each(each_bit_is_noticed);
 }
 
 #[test]
@@ -120,6 +127,14 @@ fn an_acceptance_for_a_refusal() {
 }
 
 #[test]
+fn depth_by_calls() {
+    // C refuses the table for its holes: no column has too many calls
+    let request = request(Service::C, Kind::Ends, Form::Sound);
+    assert_eq!(table(request.kind, request.seed).first_deep(|cells, column| cells[column] != 0), None);
+    each_is_noticed(request, |_, _, _| Outcome::Accepted(0));
+}
+
+#[test]
 fn nothing_written() {
     // on a table that is error-free, so that check writes too
     let services = Service::ALL.into_iter().filter(|service| !service.written().is_empty());
@@ -153,7 +168,7 @@ fn the_same_refusal_by_all() {
 fn the_same_write_by_all() {
     // around the answer where it may be written, and in it too where it may not
     let around = accepted().map(|request| (request, 2..4));
-    for (request, places) in around.into_iter().chain(refused().map(|request| (request, 0..4))) {
+    for (request, places) in around.chain(refused().map(|request| (request, 0..4))) {
         for place in places {
             let call = |call: &Call, buffers: &mut Buffers| {
                 let outcome = (ALL[LIBRARY].call)(call, buffers);
