@@ -140,6 +140,10 @@ countOn n table keepCols i j = conflictCount (gridOf n table) keepCols i j
 unfoldable pub coverageOn : ℕ → List ℕ → ℕ → ℕ
 coverageOn n table c = coverage (gridOf n table) c
 
+-- what C's rules say of a table, accepted with 0 where none is broken: no side list is tried
+unfoldable pub ruledOn : ℕ → List ℕ → Verdict
+ruledOn n table = decide (correctionRules n table (answer9 n table) (nines (length table)) work9) (accepted 0)
+
 -- what sides cost in a table
 unfoldable pub costOf : ℕ → List ℕ → List ℕ → ℕ
 costOf n table sides = cost 2 (gridOf n table) sides
@@ -150,7 +154,7 @@ left call outcome buffers = let r = leaves call in sameVerdict (r .0) outcome &&
 
 -- a trial passes; to unfold this unfolds all that a trial computes with
 passes : Trial → Bool
-unfolding marks cells frag tableFrom leaves workLeft lent nines work9 answer9 unpackOn checkOn countsOn SOn FOn COn answers corrects freeOn countOn coverageOn costOf left sameVerdict sameList hostRead
+unfolding marks cells frag tableFrom leaves workLeft lent nines work9 answer9 unpackOn checkOn countsOn SOn FOn COn answers corrects freeOn countOn coverageOn ruledOn costOf left sameVerdict sameList hostRead
     _==_ _<?_ _≤?_ _and_ _or_ isnt allBelow anyBelow sumBelow countBelow firstBelow endBelow tab tabFrom concat
     littleEndian tagOf startOf spanOf byte7Of isCall cellOf codeAt fragments recordAt partStart partLength position unpackedCells unpackedTags
     bytesOf cellBytes callsEnd callsStart callsSpan cut laidOut recordOf rowOf packed

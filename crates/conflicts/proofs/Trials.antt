@@ -9,7 +9,7 @@ use Rattle.records.specs.Outcome.{accepted, refused}
 use Rattle.records.proofs.TrialTools.{filled}
 use Rattle.conflicts.specs.Host.{hostCode, hostOutcome}
 use Rattle.records.proofs.TrialText.{marks, cells, frag, tableFrom}
-use Rattle.conflicts.proofs.TrialCalls.{unpack, pack, check, counts, S, F, C, leaves, nines, work9, unpackOn, checkOn, countsOn, SOn, FOn, COn, Trial, accepts, keeps, works, finds, equals, reads, answers, corrects, freeOn, countOn, coverageOn, costOf, failing}
+use Rattle.conflicts.proofs.TrialCalls.{unpack, pack, check, counts, S, F, C, leaves, nines, work9, unpackOn, checkOn, countsOn, SOn, FOn, COn, Trial, accepts, keeps, works, finds, equals, reads, answers, corrects, freeOn, countOn, coverageOn, ruledOn, costOf, failing}
 
 -- ---- the tables of paper 01's trials
 
@@ -264,9 +264,9 @@ mateTrials =
     ∷ accepts (unpackOn 96 wide) 1 (wideRow ∷ (1 ∷ []) ∷ [])
     ∷ accepts (pack 96 wideRow (1 ∷ []) (nines 32)) 1 (wide ∷ [])
     ∷ accepts (COn 96 wide) 0 ((replicate 96 1 ++ (wideRow ++ (replicate 96 0 ++ (1 ∷ 0 ∷ [])))) ∷ wide ∷ [])
-    -- 12 counts stretches: nine over column 1, which four fragments call
+    -- 12 counts stretches: eight over column 1, which four fragments call, break no rule of C, and nine do
     ∷ equals (coverageOn 4 covered 1) 8
-    ∷ corrects (COn 4 covered) "0 1111 ABAA ---- 11111111 0,1,2,3,4,5,6,7" covered
+    ∷ equals (hostOutcome (ruledOn 4 covered)) 0
     ∷ keeps (COn 4 (covered ++ frag 8 0 3 0x11)) (refused 12 1)
     ∷ []
 
