@@ -1,4 +1,4 @@
--- A table that keeps rules 1 to 7 and 9 is accepted by check and conflict_counts on buffers of the right lengths, refused by S and F under 8 alone, and by C under 12 alone.
+-- A table that keeps rules 1 to 7, 9 and 13 is accepted by check and conflict_counts on buffers of the right lengths, refused by S and F under 8 alone, and by C under 12 alone.
 -- Assumes nothing.
 use mathlib.Core.Bool.{Bool}
 use mathlib.Core.Path.{_≡_, sym, ap, _∙_}

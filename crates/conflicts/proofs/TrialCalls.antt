@@ -11,7 +11,7 @@ use Rattle.records.specs.Record.{littleEndian, tagOf, startOf, spanOf, byte7Of,
 use Rattle.records.specs.Table.{fragments, recordAt, partStart, partLength, position, unpackedCells, unpackedTags}
 use Rattle.records.specs.Writing.{bytesOf, cellBytes, callsEnd, callsStart, callsSpan, cut, laidOut, recordOf, rowOf, packed}
 use Rattle.records.specs.Outcome.{Verdict, accepted}
-use Rattle.records.specs.Rules.{decide, outOfFrame, strayBits, unknownCall, openEnd, gapIn, gapped, tagTwice, spanRules, recordRules, gaplessRules, tableRules, gaplessTableRules, sizeRules}
+use Rattle.records.specs.Rules.{decide, outOfFrame, strayBits, unknownCall, openEnd, gapIn, gapped, tagTwice, precedes, outOfOrder, earlierRules, spanRules, recordRules, gaplessRules, tableRules, gaplessTableRules, sizeRules}
 use Rattle.conflicts.specs.Choice.{choices, passing, some, first, leastOf, firstLeast, marked, zeros, keepAll, keepLists}
 use Rattle.conflicts.specs.Grid.{gridOf, withCells, callsConflict, conflictOn, conflictOnKept, stretchCovers, coverage}
 use Rattle.conflicts.specs.Counts.{conflictCount, conflictCounts}
@@ -128,6 +128,10 @@ unfoldable pub corrects : Call → String → List ℕ → Trial
 unfolding countIn answerIn
 corrects call line table = accepts call (countIn line) (answerIn line ∷ table ∷ [])
 
+-- every service that tests a table's records returns this and leaves its buffers as they were
+unfoldable pub allKeep : ℕ → List ℕ → Verdict → List Trial
+allKeep n table v = keeps (unpackOn n table) v ∷ keeps (checkOn n table) v ∷ keeps (countsOn n table) v ∷ keeps (SOn n table) v ∷ keeps (FOn n table) v ∷ keeps (COn n table) v ∷ []
+
 -- 1 where all fragments of a table are error-free on the columns that these marks keep, else 0
 unfoldable pub freeOn : ℕ → List ℕ → List ℕ → ℕ
 freeOn n table keepCols = bit (errorFree 2 (gridOf n table) keepCols (keepAll (fragments table)))
@@ -154,11 +158,11 @@ left call outcome buffers = let r = leaves call in sameVerdict (r .0) outcome &&
 
 -- a trial passes; to unfold this unfolds all that a trial computes with
 passes : Trial → Bool
-unfolding marks cells frag tableFrom leaves workLeft lent nines work9 answer9 unpackOn checkOn countsOn SOn FOn COn answers corrects freeOn countOn coverageOn ruledOn costOf left sameVerdict sameList hostRead
+unfolding marks cells frag tableFrom leaves workLeft lent nines work9 answer9 unpackOn checkOn countsOn SOn FOn COn answers corrects allKeep freeOn countOn coverageOn ruledOn costOf left sameVerdict sameList hostRead
     _==_ _<?_ _≤?_ _and_ _or_ isnt allBelow anyBelow sumBelow countBelow firstBelow endBelow tab tabFrom concat
     littleEndian tagOf startOf spanOf byte7Of isCall cellOf codeAt fragments recordAt partStart partLength position unpackedCells unpackedTags
     bytesOf cellBytes callsEnd callsStart callsSpan cut laidOut recordOf rowOf packed
-    decide outOfFrame strayBits unknownCall openEnd gapIn gapped tagTwice spanRules recordRules gaplessRules tableRules gaplessTableRules sizeRules
+    decide outOfFrame strayBits unknownCall openEnd gapIn gapped tagTwice precedes outOfOrder earlierRules spanRules recordRules gaplessRules tableRules gaplessTableRules sizeRules
     choices passing some first leastOf firstLeast marked zeros keepAll keepLists gridOf withCells callsConflict conflictOn conflictOnKept stretchCovers coverage conflictCount conflictCounts
     sidesOf sideLists sameSide lawful errorFree firstSides snpKeepMarks fragmentKeepMarks
     correctionCost sideCount sidePrice majorityLetter columnCost cost leastCostSides sideLetter correctedCell corrected differs cellCount changedCells

@@ -1,4 +1,4 @@
--- Paper 01's trials marked P, with the blocks of paper 02's T-04 and the mates of its T-01, and then others that tell right programs from wrong ones, from the bytes given to everything that a call leaves: computed statements.
+-- Paper 01's trials marked P, with the blocks of paper 02's T-04, the mates of its T-01 and the order of its T-02, and then others that tell right programs from wrong ones, from the bytes given to everything that a call leaves: computed statements.
 -- An answer is written as the listing prints it after the service's letter: count, keep marks, haplotype 1, haplotype 2, sides, blocks (paper 01, "The listing program").
 -- Assumes nothing.
 use mathlib.Core.Path.{_≡_, refl}
@@ -9,7 +9,7 @@ use Rattle.records.specs.Outcome.{accepted, refused}
 use Rattle.records.proofs.TrialTools.{filled}
 use Rattle.conflicts.specs.Host.{hostCode, hostOutcome}
 use Rattle.records.proofs.TrialText.{marks, cells, frag, tableFrom}
-use Rattle.conflicts.proofs.TrialCalls.{unpack, pack, check, counts, S, F, C, leaves, nines, work9, unpackOn, checkOn, countsOn, SOn, FOn, COn, Trial, accepts, keeps, works, finds, equals, reads, answers, corrects, freeOn, countOn, coverageOn, ruledOn, costOf, failing}
+use Rattle.conflicts.proofs.TrialCalls.{unpack, pack, check, counts, S, F, C, leaves, nines, work9, unpackOn, checkOn, countsOn, SOn, FOn, COn, Trial, accepts, keeps, works, finds, equals, reads, answers, corrects, allKeep, freeOn, countOn, coverageOn, ruledOn, costOf, failing}
 
 -- ---- the tables of paper 01's trials
 
@@ -36,9 +36,13 @@ three = tableFrom 1 "AA, AB, BA"
 four : List ℕ
 four = tableFrom 1 "AA, AB, BA, BB"
 
--- "AB-, -AB, B-A", by its bytes: the last record has a hole between two calls
+-- "AB-, B-A, -AB", by its bytes: the second record has a hole between two calls
 holed : List ℕ
-holed = frag 1 0 2 0x09 ++ frag 2 1 2 0x09 ++ frag 3 0 3 0x12
+holed = frag 1 0 2 0x09 ++ frag 2 0 3 0x12 ++ frag 3 1 2 0x09
+
+-- "AB-, -AB, B-A", as paper 01 has it: the last record comes before its predecessor
+fallen : List ℕ
+fallen = frag 1 0 2 0x09 ++ frag 2 1 2 0x09 ++ frag 3 0 3 0x12
 
 -- no one calls its second column
 lone : List ℕ
@@ -52,7 +56,7 @@ edge = tableFrom 1 "-AA"
 
 -- the entries marked P, each under its line; where a line names no service, for every service that it concerns
 pub pTrials : List Trial
-unfolding printed pair same three four holed lone edge
+unfolding printed pair same three four holed fallen lone edge
 pTrials =
     -- P "the table above, for S, F and C"
     answers (SOn 3 printed) "1 101 A#B B#A 121 0,0,0"
@@ -81,14 +85,22 @@ pTrials =
     ∷ answers (SOn 2 four) "1 10 A# B# 1122 0,0,0,0"
     ∷ answers (FOn 2 four) "2 11 AA AB 1200 0,0,-,-"
     ∷ corrects (COn 2 four) "2 11 AA BB 1112 0,0,0,0" (tableFrom 1 "AA, AA, AA, BB")
-    -- P "AB-, -AB, B-A: refusal 8 at 2", from S and F; T-01: "a no from check and an answer from C"
-    ∷ accepts (unpackOn 3 holed) 3 (cells "AB-, -AB, B-A" ∷ (1 ∷ 2 ∷ 3 ∷ []) ∷ [])
-    ∷ accepts (pack 3 (cells "AB-, -AB, B-A") (1 ∷ 2 ∷ 3 ∷ []) (nines 96)) 3 (holed ∷ [])
+    -- P "AB-, -AB, B-A: refusal 8", from S and F; T-01: "a no from check and an answer from C"; T-02: "tried as AB-, B-A, -AB, with 8 at 1"
+    ∷ accepts (unpackOn 3 holed) 3 (cells "AB-, B-A, -AB" ∷ (1 ∷ 2 ∷ 3 ∷ []) ∷ [])
+    ∷ accepts (pack 3 (cells "AB-, B-A, -AB") (1 ∷ 2 ∷ 3 ∷ []) (nines 96)) 3 (holed ∷ [])
     ∷ keeps (checkOn 3 holed) (accepted 1)
     ∷ accepts (countsOn 3 holed) 3 ((0 ∷ 1 ∷ 1 ∷ 1 ∷ 0 ∷ 1 ∷ 1 ∷ 1 ∷ 0 ∷ []) ∷ [])
-    ∷ keeps (SOn 3 holed) (refused 8 2)
-    ∷ keeps (FOn 3 holed) (refused 8 2)
-    ∷ corrects (COn 3 holed) "1 111 AAB B-A 112 0,0,0" (tableFrom 1 "AA-, -AB, B-A")
+    ∷ keeps (SOn 3 holed) (refused 8 1)
+    ∷ keeps (FOn 3 holed) (refused 8 1)
+    ∷ corrects (COn 3 holed) "1 111 ABA -AB 112 0,0,0" (tableFrom 1 "AB-, A-A, -AB")
+    -- … and in the old order 13 at 2, but 8 at 2, which comes first, from S and F
+    ∷ keeps (unpackOn 3 fallen) (refused 13 2)
+    ∷ keeps (pack 3 (cells "AB-, -AB, B-A") (1 ∷ 2 ∷ 3 ∷ []) (nines 96)) (refused 13 2)
+    ∷ keeps (checkOn 3 fallen) (refused 13 2)
+    ∷ keeps (countsOn 3 fallen) (refused 13 2)
+    ∷ keeps (SOn 3 fallen) (refused 8 2)
+    ∷ keeps (FOn 3 fallen) (refused 8 2)
+    ∷ keeps (COn 3 fallen) (refused 13 2)
     -- P "a column no one calls is kept, a hole in both haplotypes"
     ∷ answers (checkOn 2 lone) "0 11 A- -- 1 0"
     ∷ answers (SOn 2 lone) "0 11 A- -- 1 0"
@@ -126,11 +138,11 @@ apart = tableFrom 1 "A-, -A"
 
 -- a chain whose link comes last
 bridged : List ℕ
-bridged = tableFrom 1 "A-, -A, BB"
+bridged = tableFrom 1 "AA-, -AA, -BB"
 
 -- shared calls join them, and conflicts do not
 agreeing : List ℕ
-agreeing = tableFrom 1 "A-, -A, AA"
+agreeing = tableFrom 1 "A-, AA, -A"
 
 -- its last fragment conflicts only on a column that S removes, and agrees with the third
 outside : List ℕ
@@ -150,7 +162,7 @@ unforced = tableFrom 1 "AA, AA, BA"
 
 -- the rarer letter of a side is A
 rarerA : List ℕ
-rarerA = tableFrom 1 "AA, AB, BA, -B, B-"
+rarerA = tableFrom 1 "AA, AB, BA, B-, -B"
 
 -- nine calls in column 1
 deep : List ℕ
@@ -174,6 +186,10 @@ wideRow = 1 ∷ replicate 94 0 ++ 2 ∷ []
 
 wide : List ℕ
 wide = filled (1 ∷ 0 ∷ 0 ∷ 0 ∷ 0 ∷ 0 ∷ 96 ∷ 0 ∷ 0x01 ∷ replicate 22 0 ++ 0x80 ∷ [])
+
+-- A at column 0, with tag 256
+high : List ℕ
+high = filled (0 ∷ 1 ∷ 0 ∷ 0 ∷ 0 ∷ 0 ∷ 1 ∷ 0 ∷ 0x01 ∷ [])
 
 -- a row of 97 cells: A first, this code next, and A last
 far : ℕ → List ℕ
@@ -209,8 +225,8 @@ answerTrials =
     -- a column may be all A: opposite letters are not forced on the haplotypes; the rarer letter can be A
     ∷ answers (checkOn 2 unforced) "0 11 AA BA 112 0,0,0"
     ∷ corrects (COn 2 unforced) "0 11 AA BA 112 0,0,0" unforced
-    ∷ corrects (COn 2 rarerA) "1 11 AB BA 11212 0,0,0,0,0" (tableFrom 1 "AB, AB, BA, -B, B-")
-    ∷ answers (FOn 2 rarerA) "1 11 AB BA 01212 -,1,1,1,1"
+    ∷ corrects (COn 2 rarerA) "1 11 AB BA 11221 0,0,0,0,0" (tableFrom 1 "AB, AB, BA, B-, -B")
+    ∷ answers (FOn 2 rarerA) "1 11 AB BA 01221 -,1,1,1,1"
     -- nine calls in a column are no matter to check
     ∷ answers (checkOn 2 deep) "0 11 -A -- 111111111 0,1,2,3,4,5,6,7,8"
     ∷ []
@@ -222,7 +238,7 @@ blockTrials =
     -- two that share no column; a chain whose link comes last; agreements are no links
     answers (checkOn 2 apart) "0 11 AA -- 11 0,1"
     ∷ corrects (COn 2 apart) "0 11 AA -- 11 0,1" apart
-    ∷ answers (checkOn 2 bridged) "0 11 AA BB 112 0,0,0"
+    ∷ answers (checkOn 3 bridged) "0 111 AAA -BB 112 0,0,0"
     ∷ answers (checkOn 2 agreeing) "0 11 AA -- 111 0,1,2"
     -- a fragment that calls only a column that S removes, and one whose only conflicts lie on it, is a block by itself
     ∷ answers (SOn 2 dangling) "1 10 A# B# 1121 0,0,0,3"
@@ -267,8 +283,38 @@ mateTrials =
     -- 12 counts stretches: eight over column 1, which four fragments call, break no rule of C, and nine do
     ∷ equals (coverageOn 4 covered 1) 8
     ∷ equals (hostOutcome (ruledOn 4 covered)) 0
-    ∷ keeps (COn 4 (covered ++ frag 8 0 3 0x11)) (refused 12 1)
+    ∷ keeps (COn 4 (covered ++ frag 8 1 3 0x11)) (refused 12 1)
     ∷ []
+
+-- records in order (paper 02, T-02), for every service that tests records, and for pack by the starts that it would write
+pub risingTrials : List Trial
+unfolding allKeep high far
+risingTrials =
+    -- equal start and rising tags pass, also where the low byte falls; rising start and falling tags pass
+    answers (FOn 1 (tableFrom 1 "A, A" ++ high)) "0 1 A - 111 0,1,2"
+    ∷ accepts (pack 1 (cells "A, A, A") (1 ∷ 2 ∷ 256 ∷ []) (nines 96)) 3 ((tableFrom 1 "A, A" ++ high) ∷ [])
+    ∷ answers (FOn 2 (frag 2 0 1 1 ++ frag 1 1 1 1)) "0 11 AA -- 11 0,1"
+    ∷ accepts (pack 2 (cells "A-, -A") (2 ∷ 1 ∷ []) (nines 64)) 2 ((frag 2 0 1 1 ++ frag 1 1 1 1) ∷ [])
+    -- equal start and falling tags are 13, also where the low byte rises
+    ∷ keeps (pack 1 (cells "A, A") (2 ∷ 1 ∷ []) (nines 64)) (refused 13 1)
+    ∷ keeps (pack 1 (cells "A, A") (256 ∷ 1 ∷ []) (nines 64)) (refused 13 1)
+    -- falling start is 13, also where it is not under that of record 0
+    ∷ keeps (pack 2 (cells "-A, A-") (1 ∷ 2 ∷ []) (nines 64)) (refused 13 1)
+    ∷ keeps (pack 3 (cells "A--, --A, -A-") (1 ∷ 2 ∷ 3 ∷ []) (nines 96)) (refused 13 2)
+    -- a fragment without calls with a low tag after one with a high tag at start 0; one after a start of 1
+    ∷ keeps (pack 1 (cells "A, -") (2 ∷ 1 ∷ []) (nines 64)) (refused 13 1)
+    ∷ keeps (pack 2 (cells "-A, --") (1 ∷ 2 ∷ []) (nines 64)) (refused 13 1)
+    -- 9 before 13, and 6 and 4 before both
+    ∷ keeps (pack 2 (cells "-A, A-") (2 ∷ 2 ∷ []) (nines 64)) (refused 9 1)
+    ∷ keeps (pack 1 (1 ∷ 3 ∷ []) (2 ∷ 1 ∷ []) (nines 64)) (refused 6 1)
+    ∷ keeps (pack 97 (1 ∷ replicate 96 0 ++ far 1) (2 ∷ 1 ∷ []) (nines 64)) (refused 4 1)
+    ∷ allKeep 1 (frag 2 0 1 1 ++ frag 1 0 1 1) (refused 13 1)
+    ++ allKeep 1 (high ++ frag 1 0 1 1) (refused 13 1)
+    ++ allKeep 2 (frag 1 1 1 1 ++ frag 2 0 1 1) (refused 13 1)
+    ++ allKeep 3 (frag 1 0 1 1 ++ frag 2 2 1 1 ++ frag 3 1 1 1) (refused 13 2)
+    ++ allKeep 1 (frag 2 0 1 1 ++ frag 1 0 0 0) (refused 13 1)
+    ++ allKeep 2 (frag 1 1 1 1 ++ frag 2 0 0 0) (refused 13 1)
+    ++ allKeep 2 (frag 2 1 1 1 ++ frag 2 0 1 1) (refused 9 1)
 
 -- how often two fragments disagree (paper 02, T-06)
 pub countTrials : List Trial
@@ -314,7 +360,7 @@ ruleTrials =
     ∷ keeps (F 3 holed [] work9) (refused 11 0)
     ∷ keeps (C 2 (same ++ same) (nines 13) (nines 128) work9) (refused 11 0)
     ∷ keeps (C 2 (same ++ same) (nines 14) (nines 129) work9) (refused 11 0)
-    -- the records, each by 4 to 7 and 9
+    -- the records, each by 4 to 7, 9 and 13, which is tried above
     ∷ keeps (checkOn 128 (lone ++ frag 2 0 97 0x55)) (refused 4 1)
     ∷ keeps (checkOn 3 (lone ++ frag 2 1 0 0)) (refused 4 1)
     ∷ keeps (checkOn 3 (lone ++ filled (2 ∷ 0 ∷ 0 ∷ 0 ∷ 0 ∷ 0 ∷ 1 ∷ 1 ∷ 1 ∷ []))) (refused 5 1)
@@ -323,7 +369,7 @@ ruleTrials =
     ∷ keeps (checkOn 3 (lone ++ frag 2 0 2 0x04)) (refused 7 1)
     ∷ keeps (checkOn 3 (lone ++ frag 2 0 2 0x01)) (refused 7 1)
     ∷ keeps (checkOn 3 (lone ++ lone)) (refused 9 1)
-    -- by S and F each by 4 to 9: 8 after 7 and before 9, and before every rule of a later record
+    -- by S and F each by 8 too: 8 after 7 and before 9, and before every rule of a later record
     ∷ keeps (SOn 4 (lone ++ frag 2 0 4 0x44)) (refused 7 1)
     ∷ keeps (SOn 3 (lone ++ frag 1 0 3 0x12)) (refused 8 1)
     ∷ keeps (FOn 3 (lone ++ frag 1 0 3 0x12)) (refused 8 1)
@@ -362,7 +408,7 @@ unpackTrials =
     ∷ keeps (unpackOn 2 (same ++ same)) (refused 9 2)
     ∷ []
 
--- pack, and its rules in order: 3, 1, 2, 11; then 6, 4, 9
+-- pack, and its rules in order: 3, 1, 2, 11; then 6, 4, 9, and 13, which is tried above
 pub packTrials : List Trial
 unfolding printed far
 packTrials =
@@ -401,7 +447,7 @@ hostTrials =
     ∷ equals (hostCode (leaves (checkOn 3 printed) .0)) 1
     ∷ equals (hostCode (leaves (checkOn 3 (lone ++ lone)) .0)) 9001
     ∷ equals (hostOutcome (leaves (SOn 3 printed) .0)) 1
-    ∷ equals (hostOutcome (leaves (SOn 3 holed) .0)) 34359738370
+    ∷ equals (hostOutcome (leaves (SOn 3 holed) .0)) 34359738369
     ∷ reads 1000 1 (accepted 1)
     ∷ reads 1000 8002 (refused 8 2)
     ∷ reads 4294967296 16384 (accepted 16384)
@@ -410,8 +456,8 @@ hostTrials =
 
 -- all trials but paper 01's
 pub otherTrials : List Trial
-unfolding aboveTrials answerTrials blockTrials pairTrials mateTrials countTrials ruleTrials workTrials unpackTrials packTrials findTrials hostTrials
-otherTrials = aboveTrials ++ answerTrials ++ blockTrials ++ pairTrials ++ mateTrials ++ countTrials ++ ruleTrials ++ workTrials ++ unpackTrials ++ packTrials ++ findTrials ++ hostTrials
+unfolding aboveTrials answerTrials blockTrials pairTrials mateTrials risingTrials countTrials ruleTrials workTrials unpackTrials packTrials findTrials hostTrials
+otherTrials = aboveTrials ++ answerTrials ++ blockTrials ++ pairTrials ++ mateTrials ++ risingTrials ++ countTrials ++ ruleTrials ++ workTrials ++ unpackTrials ++ packTrials ++ findTrials ++ hostTrials
 
 -- all of these
 pub others-pass : failing 0 otherTrials ≡ []

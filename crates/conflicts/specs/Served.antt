@@ -1,4 +1,4 @@
--- What check, conflict_counts, S, F and C say of a table that keeps rules 1 to 7 and 9, on buffers of the right lengths (paper 01, "Refused tables": a refusal "occurs under these conditions alone").
+-- What check, conflict_counts, S, F and C say of a table that keeps rules 1 to 7, 9 and 13, on buffers of the right lengths (paper 01, "Refused tables": a refusal "occurs under these conditions alone").
 -- Assumes nothing.
 use mathlib.Core.Path.{_≡_}
 use mathlib.Core.Logic.{_⊎_}

@@ -5,9 +5,9 @@ use mathlib.Core.List.{List, [], _∷_, _++_}
 use lib.ListN.{length, getD, replicate}
 use Rattle.below.specs.Below.{if_then_else_, _==_, _<?_, isnt, anyBelow, tab, concat}
 use Rattle.records.specs.Table.{fragments, partStart, partLength, position, unpackedCells, unpackedTags}
-use Rattle.records.specs.Writing.{callsSpan, rowOf, packed}
+use Rattle.records.specs.Writing.{callsStart, callsSpan, rowOf, packed}
 use Rattle.records.specs.Outcome.{Verdict, accepted, refused}
-use Rattle.records.specs.Rules.{Rule, rule, decide, sizeRules, tableRules, gaplessTableRules}
+use Rattle.records.specs.Rules.{Rule, rule, decide, earlierRules, sizeRules, tableRules, gaplessTableRules}
 use Rattle.conflicts.specs.Choice.{zeros, keepAll}
 use Rattle.conflicts.specs.Grid.{Grid, gridOf, coverage}
 use Rattle.conflicts.specs.Counts.{conflictCounts}
@@ -34,13 +34,17 @@ depthRules g = tab (g .n) (λ c. rule 12 c (8 <? coverage g c))
 unfoldable pub packSizeRules : ℕ → List ℕ → List ℕ → List Rule
 packSizeRules n cells tags = rule 3 0 (128 <? n) ∷ rule 1 0 (isnt (length cells == length tags * n)) ∷ rule 2 0 (128 <? length tags) ∷ []
 
--- pack's fragment i: 6, "a cell over 2"; 4, "calls reach over more than 96 columns"; 9
+-- the start that pack would write for fragment i, and its tag
+abbrev pub packedStart : ℕ → List ℕ → ℕ → ℕ
+packedStart n cells i = callsStart n (rowOf n cells i)
+
+abbrev pub packedTag : List ℕ → ℕ → ℕ
+packedTag tags i = getD tags i 0
+
+-- pack's fragment i: 6, "a cell over 2"; 4, "calls reach over more than 96 columns"; 9 and 13
 unfoldable pub fragmentRules : ℕ → List ℕ → List ℕ → ℕ → List Rule
 fragmentRules n cells tags i =
-    rule 6 i (anyBelow n (λ c. 2 <? rowOf n cells i c))
-    ∷ rule 4 i (96 <? callsSpan n (rowOf n cells i))
-    ∷ rule 9 i (anyBelow i (λ h. getD tags h 0 == getD tags i 0))
-    ∷ []
+    rule 6 i (anyBelow n (λ c. 2 <? rowOf n cells i c)) ∷ rule 4 i (96 <? callsSpan n (rowOf n cells i)) ∷ earlierRules (packedStart n cells) (packedTag tags) i
 
 -- ---- the rules of each service
 

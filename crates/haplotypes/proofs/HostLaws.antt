@@ -14,7 +14,7 @@ use Rattle.records.specs.Table.{fragments, partStart, position}
 use Rattle.records.specs.declared.Outcome.{Outcome}
 use Rattle.records.specs.declared.Outcome.the-variants.{Refused}
 use Rattle.records.specs.Outcome.{Verdict, accepted, refused, outcomeOf}
-use Rattle.records.specs.Rules.{Rule, rule, decide, spanRules, recordRules, gaplessRules, tableRules, gaplessTableRules, sizeRules}
+use Rattle.records.specs.Rules.{Rule, rule, decide, earlierRules, spanRules, recordRules, gaplessRules, tableRules, gaplessTableRules, sizeRules}
 use Rattle.below.proofs.BelowLaws.{if-true, if-false, lt-<?, le-isnt, count-bound}
 use Rattle.below.proofs.MemberLaws.{concat-at, tab-at}
 use Rattle.records.proofs.RuleLaws.{decide-append, decide-accepted, decide-refused}
@@ -123,13 +123,17 @@ module _ {base : ℕ} (wide : 128 < base) where
   unfolding spanRules
   span-named n table i rs h w = one-more (omega arith) h (one-more (omega arith) h (one-more (omega arith) h (one-more (omega arith) h w)))
 
+  earlier-named : (start tag : ℕ → ℕ) (i : ℕ) → i < base → Named base (earlierRules start tag i)
+  unfolding earlierRules
+  earlier-named start tag i h = one-more (omega arith) h (one-more (omega arith) h none-named)
+
   table-named : (n : ℕ) (table : List ℕ) → fragments table ≤ 128 → Named base (tableRules n table)
   unfolding tableRules recordRules
-  table-named n table few = rows-named _ _ (λ i h. span-named n table i _ (omega arith) (one-more (omega arith) (omega arith) none-named))
+  table-named n table few = rows-named _ _ (λ i h. span-named n table i _ (omega arith) (earlier-named _ _ i (omega arith)))
 
   gapless-named : (n : ℕ) (table : List ℕ) → fragments table ≤ 128 → Named base (gaplessTableRules n table)
   unfolding gaplessTableRules gaplessRules
-  gapless-named n table few = rows-named _ _ (λ i h. span-named n table i _ (omega arith) (one-more (omega arith) (omega arith) (one-more (omega arith) (omega arith) none-named)))
+  gapless-named n table few = rows-named _ _ (λ i h. span-named n table i _ (omega arith) (one-more (omega arith) (omega arith) (earlier-named _ _ i (omega arith))))
 
   -- what follows rules 3, 1 and 2
   module _ (n : ℕ) (table : List ℕ) (stages : List (List Rule)) (count : ℕ) where
@@ -159,7 +163,7 @@ module _ {base : ℕ} (wide : 128 < base) where
 
   fragment-named : (n : ℕ) (cells tags : List ℕ) (i : ℕ) → i < base → Named base (fragmentRules n cells tags i)
   unfolding fragmentRules
-  fragment-named n cells tags i h = one-more (omega arith) h (one-more (omega arith) h (one-more (omega arith) h none-named))
+  fragment-named n cells tags i h = one-more (omega arith) h (one-more (omega arith) h (earlier-named _ _ i h))
 
   -- S's and F's, of any count
   removal-fits : (n : ℕ) (table answer work : List ℕ) (count : ℕ) → (n ≤ 128 → fragments table ≤ 128 → count < base) → HostFits base (decide (removalRules n table answer work) (accepted count))

@@ -12,7 +12,7 @@ use Rattle.records.specs.Record.{littleEndian, tagOf, startOf, spanOf, byte7Of,
 use Rattle.records.specs.Table.{fragments, recordAt, columnCount}
 use Rattle.records.specs.Writing.{bytesOf, cellBytes}
 use Rattle.records.specs.Outcome.{refused}
-use Rattle.records.specs.Rules.{decide, outOfFrame, strayBits, unknownCall, openEnd, gapIn, gapped, tagTwice, spanRules, recordRules, gaplessRules, tableRules, gaplessTableRules, sizeRules, tableVerdict}
+use Rattle.records.specs.Rules.{decide, outOfFrame, strayBits, unknownCall, openEnd, gapIn, gapped, tagTwice, precedes, outOfOrder, earlierRules, spanRules, recordRules, gaplessRules, tableRules, gaplessTableRules, sizeRules, tableVerdict}
 use Rattle.records.proofs.TrialTools.{sameList, filled, made}
 use Rattle.conflicts.specs.Choice.{choices, passing, some, first, leastOf, firstLeast, marked, zeros, keepAll, keepLists}
 use Rattle.conflicts.specs.Grid.{gridOf, withCells, callsConflict, conflictOn, conflictOnKept, stretchCovers, coverage}
@@ -32,9 +32,9 @@ use Rattle.listing.specs.Listing.{digitsOf, decimal, digits, letters, si
 printed : List ℕ
 printed = made 10 0 2 0 (0x05 ∷ []) ++ made 11 0 3 0 (0x16 ∷ []) ++ made 12 1 2 0 (0x0A ∷ [])
 
--- AB-, -AB, B-A
+-- AB-, B-A, -AB
 holed : List ℕ
-holed = made 1 0 2 0 (0x09 ∷ []) ++ made 2 1 2 0 (0x09 ∷ []) ++ made 3 0 3 0 (0x12 ∷ [])
+holed = made 1 0 2 0 (0x09 ∷ []) ++ made 2 0 3 0 (0x12 ∷ []) ++ made 3 1 2 0 (0x09 ∷ [])
 
 -- ---- trials
 
@@ -55,8 +55,9 @@ trials =
     prints (listing printed) "fragments 3 snps 3\nerror-free no\nS 1 101 A#B B#A 121 0,0,0\nF 1 111 AA- BAA 120 0,0,-\nC 1 111 AAA -BB 112 0,0,0\n"
     ∷ prints (listing []) "fragments 0 snps 0\nerror-free yes\nS 0 . . . . .\nF 0 . . . . .\nC 0 . . . . .\n"
     ∷ prints (listing (made 1 0 0 0 [])) "fragments 1 snps 0\nerror-free yes\nS 0 . . . 1 0\nF 0 . . . 1 0\nC 0 . . . 1 0\n"
-    ∷ prints (listing holed) "fragments 3 snps 3\nerror-free no\nS refused 8 at 2\nF refused 8 at 2\nC 1 111 AAB B-A 112 0,0,0\n"
+    ∷ prints (listing holed) "fragments 3 snps 3\nerror-free no\nS refused 8 at 1\nF refused 8 at 1\nC 1 111 ABA -AB 112 0,0,0\n"
     ∷ prints (listing (printed ++ printed)) "refused 9 at 3\n"
+    ∷ prints (listing (made 1 1 1 0 (1 ∷ []) ++ made 2 0 1 0 (1 ∷ []))) "refused 13 at 1\n"
     ∷ prints (listing (1 ∷ [])) "refused 1 at 0\n"
     ∷ prints (serviceLine (code "C") 9 1 (refused 12 0) []) "C refused 12 at 0\n"
     ∷ prints (sizesLine 128 105) "fragments 128 snps 105\n"
@@ -66,7 +67,7 @@ pub all-pass : failing 0 trials ≡ []
 unfolding printed holed passes failing trials sameList filled made
     _==_ _<?_ _≤?_ _and_ _or_ isnt allBelow anyBelow sumBelow countBelow firstBelow endBelow maxBelow tab tabFrom concat
     littleEndian tagOf startOf spanOf byte7Of isCall cellOf codeAt fragments recordAt columnCount bytesOf cellBytes
-    decide outOfFrame strayBits unknownCall openEnd gapIn gapped tagTwice spanRules recordRules gaplessRules tableRules gaplessTableRules sizeRules tableVerdict
+    decide outOfFrame strayBits unknownCall openEnd gapIn gapped tagTwice precedes outOfOrder earlierRules spanRules recordRules gaplessRules tableRules gaplessTableRules sizeRules tableVerdict
     choices passing some first leastOf firstLeast marked zeros keepAll keepLists gridOf withCells callsConflict conflictOn conflictOnKept stretchCovers coverage
     sidesOf sideLists sameSide lawful errorFree firstSides snpKeepMarks fragmentKeepMarks
     correctionCost sideCount sidePrice majorityLetter columnCost cost leastCostSides sideLetter correctedCell corrected differs cellCount changedCells

@@ -1,4 +1,4 @@
--- The cell matrix of a table that keeps its rules: its size, its codes, and that it is gapless where 8 is kept too.
+-- The cell matrix of a table that keeps its rules: its size, its codes, that its fragments rise by start, and that it is gapless where 8 is kept too.
 -- Assumes nothing.
 use mathlib.Core.Path.{_≡_, sym, ap, ap₂, subst, _∙_}
 use mathlib.Core.List.{List}
@@ -6,12 +6,15 @@ use Prim.Native.Nat.{ℕ, _≤_, _<_}
 use native.Mathlib.Omega.{arith}
 use lib.Dec.{T}
 use lib.ListN.{length}
-use Rattle.records.specs.Table.{fragments, recordAt}
+use Rattle.records.specs.Record.{codeAt}
+use Rattle.records.specs.Table.{fragments, recordAt, startAt, tagAt}
+use Rattle.records.specs.Writing.{callsStart}
 use Rattle.records.specs.Algorithm.Kept.{SizesKept, RecordsKept, GaplessKept}
-use Rattle.records.proofs.AcceptedLaws.{accepted-sound, gapless-records, accepted-gapless, sized-count, sized-n, sized-m}
-use Rattle.records.proofs.PackLaws.{Sound}
-use Rattle.records.proofs.SoundLaws.{sound-row-small}
-use Rattle.matrix.specs.Algorithm.Matrix.{matrixGrid, Gapless, Matrix}
+use Rattle.records.proofs.AcceptedLaws.{accepted-sound, accepted-earlier, gapless-records, accepted-gapless, sized-count, sized-n, sized-m}
+use Rattle.records.proofs.OrderLaws.{starts-rise}
+use Rattle.records.proofs.PackLaws.{Sound, calls-same}
+use Rattle.records.proofs.SoundLaws.{sound-row-start, sound-row-small}
+use Rattle.matrix.specs.Algorithm.Matrix.{matrixGrid, Gapless, Matrix, Rising}
 use Rattle.conflicts.specs.Grid.{gapless}
 use Rattle.conflicts.proofs.GapLaws.{gapless-table}
 use Rattle.matrix.specs.Algorithm.Cells.{tableCells}
@@ -43,4 +46,22 @@ module _ {n m : ℕ} {table cells : List ℕ} (sized : SizesKept n m table) (sam
   table-gapless kept = record {
     no-gap = subst T (sym (ap gapless grid-is ∙ cells-gapless n table (sized-n sized) few)) (gapless-table n table (sound (gapless-records kept)) (accepted-gapless kept));
     codes = table-codes (gapless-records kept);
+  }
+
+  -- a fragment's first call is at its record's start
+  start-is : RecordsKept n table → (p : ℕ) → p < fragments table → callsStart n (matrixGrid m n cells .cell p) ≡ startAt table p
+  unfolding matrixGrid
+  start-is kept p h =
+      calls-same n _ (codeAt (recordAt table p)) (λ c l. rw same (cells-same n table (sized-n sized) few p c h l)) .0
+      ∙ sound-row-start n (recordAt table p) (sound kept p h)
+
+  pub table-rising : RecordsKept n table → Rising (matrixGrid m n cells)
+  unfolding matrixGrid
+  table-rising kept = record {
+    rises = λ p q pq qm.
+        let inside : q < fragments table = let e = sized-count sized in omega arith in
+        let a = start-is kept p (omega arith) in
+        let b = start-is kept q inside in
+        let r = starts-rise (fragments table) (startAt table) (tagAt table) (accepted-earlier n table _ _ (kept .kept)) p q pq inside in
+        omega arith;
   }

@@ -1,25 +1,28 @@
--- A fragment's row as a part of the cells, and what the rows keep once no fragment breaks rule 6, 4 or 9.
+-- A fragment's row as a part of the cells, and what the rows keep once no fragment breaks rule 6, 4, 9 or 13.
 -- Assumes nothing.
-use mathlib.Core.Path.{_≡_, refl, ap, _∙_}
+use mathlib.Core.Path.{_≡_, refl, sym, ap, ap₂, _∙_}
+use mathlib.Core.Logic.{inl, inr}
 use mathlib.Core.Bool.{Bool}
-use mathlib.Core.List.{List, [], _∷_, List·Memᴰ, List·Memᴰ·head, List·Memᴰ·tail}
+use mathlib.Core.List.{List, List·Memᴰ·head, List·Memᴰ·tail}
 use Prim.Native.Nat.{ℕ, _+_, _*_, _-_, _≤_, _<_}
-use native.Mathlib.Nat.{add-sub-cancel-left}
+use native.Mathlib.Nat.{add-sub-cancel-left, eq-zero-or-pos}
 use native.Mathlib.Omega.{arith}
 use lib.Dec.{T}
 use lib.ListN.{length, getD, take, drop, length-drop}
 use lib.Seq.{getD-take, getD-drop, length-take-le}
-use Rattle.below.specs.Below.{_==_, _<?_, isnt, anyBelow}
-use Rattle.records.specs.Writing.{callsSpan, recordOf, codesOf, writable, rowOf}
-use Rattle.records.specs.Outcome.{Verdict}
-use Rattle.records.specs.Rules.{Rule, rule, decide}
-use Rattle.below.proofs.BelowLaws.{both, isnt-<?, le-≤?, le-isnt, any-ext, none-at, none-of, isnt-==, ne-isnt}
+use Rattle.below.specs.Below.{_<?_, _and_, isnt, anyBelow}
+use Rattle.records.specs.Writing.{callsStart, callsEnd, callsSpan, recordOf, codesOf, writable, rowOf}
+use Rattle.records.specs.Rules.{precedes, outOfOrder, earlierRules}
+use Rattle.below.proofs.BelowLaws.{both, isnt-<?, le-≤?, le-isnt, any-ext, none-at, none-of}
+use Rattle.below.proofs.SearchLaws.{<?-false}
 use Rattle.below.proofs.MemberLaws.{concat-of, tab-of}
-use Rattle.records.proofs.RuleLaws.{decide-none, unbroken}
+use Rattle.records.proofs.RuleLaws.{unbroken, all-unbroken}
+use Rattle.records.proofs.OrderLaws.{NoneBroken}
 use Rattle.records.proofs.KeptLaws.{rule-unbroken, rows-kept}
 use Rattle.records.proofs.PackLaws.{calls-same, recordOf-same}
-use Rattle.conflicts.specs.Services.{fragmentRules}
-use Rattle.packing.specs.Algorithm.Sizes.{FragmentsKept, fragmentsRules}
+use Rattle.writing.proofs.ScanLaws.{start-le-end}
+use Rattle.conflicts.specs.Services.{packedStart, packedTag, fragmentRules}
+use Rattle.packing.specs.Algorithm.Sizes.{FragmentsKept, Starts, fragmentsRules}
 
 -- ---- a row as a part of the cells
 
@@ -58,20 +61,31 @@ module _ (n : ℕ) (cells : List ℕ) (i : ℕ) {at : ℕ} (here : at ≡ i * n)
       (both _ _ (le-≤? _ _ (omega arith)) (rw row-unknown (none-of n _ (λ c l. le-isnt _ _ (small c l)))))
       (le-≤? _ _ (omega arith))
 
-  -- the rules of a fragment, by what was tested of its part of the cells
-  pub tested-fragment : (tags : List ℕ) {unknown twice : Bool} {span : ℕ} (v : Verdict)
-      → unknown ≡ anyBelow (length (rowPart n cells at)) (λ c. 2 <? codesOf (rowPart n cells at) c)
-      → span ≡ callsSpan (length (rowPart n cells at)) (codesOf (rowPart n cells at))
-      → twice ≡ anyBelow i (λ h. getD tags h 0 == getD tags i 0)
-      → decide (fragmentRules n cells tags i) v ≡ decide (rule 6 i unknown ∷ rule 4 i (96 <? span) ∷ rule 9 i twice ∷ []) v
-  unfolding fragmentRules
-  tested-fragment tags v e6 e4 e9 =
-      rw (← row-unknown, ← row-span, ← e6, ← e4, ← e9)
+  pub row-start : callsStart (length (rowPart n cells at)) (codesOf (rowPart n cells at)) ≡ packedStart n cells i
+  row-start = same-row callsStart (calls-same n _ _ row-at .0)
+
+  -- its span, from its start and its end
+  module _ {start end : ℕ} (starts : start ≡ packedStart n cells i) (ends : end ≡ callsEnd (length (rowPart n cells at)) (codesOf (rowPart n cells at))) where
+    pub start-within : start ≤ end
+    start-within = let e = row-start in let l = start-le-end (length (rowPart n cells at)) (codesOf (rowPart n cells at)) in omega arith
+
+    pub span-read : callsSpan n (rowOf n cells i) ≡ end - start
+    unfolding callsSpan
+    span-read = sym (ap₂ _-_ ends (starts ∙ sym row-start) ∙ row-span)
+
+-- 13, from the starts of a fragment and of the one before it
+pub order-read : (n : ℕ) (cells tags : List ℕ) (i : ℕ) {start last : ℕ} {fallen : Bool} → Starts n cells i start last
+    → fallen ≡ (0 <? i and precedes start (packedTag tags i) last (packedTag tags (i - 1))) → outOfOrder (packedStart n cells) (packedTag tags) i ≡ fallen
+unfolding outOfOrder _and_
+order-read n cells tags i s e = elim (eq-zero-or-pos i) [
+  | inl z ↦ let none = <?-false 0 i (omega arith) in rw none (sym (rw none at e))
+  | inr pos ↦ rw (← s .here, ← s .before pos) (sym e)
+]
 
 -- ---- fragments that keep their rules
 
 module _ {n : ℕ} {cells tags : List ℕ} (fragments : FragmentsKept n cells tags) (i : ℕ) (h : i < length tags) where
-  kept-rule : (r : Rule) → List·Memᴰ r (fragmentRules n cells tags i) → T (isnt (r .broken))
+  kept-rule : NoneBroken (fragmentRules n cells tags i)
   unfolding fragmentsRules
   kept-rule r m = unbroken (fragmentsRules n cells tags) _ _ (fragments .kept) r (concat-of m (tab-of (fragmentRules n cells tags) (length tags) i h))
 
@@ -85,19 +99,18 @@ module _ {n : ℕ} {cells tags : List ℕ} (fragments : FragmentsKept n cells ta
   unfolding fragmentRules
   kept-narrow = isnt-<? _ _ (kept-rule _ (List·Memᴰ·tail (List·Memᴰ·head refl)))
 
-  -- 9
-  pub kept-tags : (g : ℕ) → g < i → getD tags g 0 ≡ getD tags i 0 → ⊥
+  -- 9 and 13
+  pub kept-earlier : NoneBroken (earlierRules (packedStart n cells) (packedTag tags) i)
   unfolding fragmentRules
-  kept-tags g l = isnt-== _ _ (none-at i _ (kept-rule _ (List·Memᴰ·tail (List·Memᴰ·tail (List·Memᴰ·head refl)))) g l)
+  kept-earlier r m = kept-rule r (List·Memᴰ·tail (List·Memᴰ·tail m))
 
 -- fragments that pack takes
 pub fragments-kept-of : {n : ℕ} {cells tags : List ℕ} → ((i : ℕ) → i < length tags → (c : ℕ) → c < n → rowOf n cells i c ≤ 2) → ((i : ℕ) → i < length tags → callsSpan n (rowOf n cells i) ≤ 96)
-    → ((i : ℕ) → i < length tags → (h : ℕ) → h < i → getD tags h 0 ≡ getD tags i 0 → ⊥) → FragmentsKept n cells tags
+    → ((i : ℕ) → i < length tags → NoneBroken (earlierRules (packedStart n cells) (packedTag tags) i)) → FragmentsKept n cells tags
 unfolding fragmentsRules fragmentRules
-fragments-kept-of {n} {cells} {tags} small narrow new = record {
+fragments-kept-of {n} {cells} {tags} small narrow earlier = record {
   kept = rows-kept (fragmentRules n cells tags) (length tags) _ (λ i l.
       rule-unbroken _ _ _ (none-of n _ (λ c k. le-isnt _ _ (small i l c k)))
       ∙ rule-unbroken _ _ _ (le-isnt _ _ (narrow i l))
-      ∙ rule-unbroken _ _ _ (none-of i _ (λ h k. ne-isnt _ _ (new i l h k)))
-      ∙ decide-none _);
+      ∙ all-unbroken _ _ (earlier i l));
 }

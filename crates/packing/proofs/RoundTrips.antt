@@ -5,23 +5,24 @@ use mathlib.Core.List.{List}
 use Prim.Native.Nat.{ℕ, _*_, _<_}
 use native.Mathlib.Omega.{arith}
 use lib.ListN.{length, getD}
-use Rattle.records.specs.Record.{codeAt}
-use Rattle.records.specs.Table.{fragments, recordAt, unpackedCells, unpackedTags}
+use Rattle.records.specs.Record.{startOf, codeAt}
+use Rattle.records.specs.Table.{fragments, recordAt, startAt, tagAt, unpackedCells, unpackedTags}
 use Rattle.records.specs.Writing.{rowOf, packed}
 use Rattle.records.specs.Outcome.{accepted}
-use Rattle.records.specs.Rules.{decide, tableRules}
-use Rattle.records.proofs.PackLaws.{Sound, calls-same, sound-narrow}
-use Rattle.records.proofs.SoundLaws.{sound-row-span, sound-row-small, recordOf-sound}
+use Rattle.records.specs.Rules.{decide, earlierRules, tableRules}
+use Rattle.records.proofs.OrderLaws.{NoneBroken, earlier-same}
+use Rattle.records.proofs.PackLaws.{Sound, calls-same, sound-narrow, start-recordOf}
+use Rattle.records.proofs.SoundLaws.{sound-row-start, sound-row-span, sound-row-small, recordOf-sound}
 use Rattle.records.proofs.TableLaws.{Packable, length-whole, length-unpackedCells, length-unpackedTags, tag-unpacked, row-unpacked, table-again, length-packed, fragments-packed, record-packed, tag-packed, tags-again, unpacked-again}
-use Rattle.records.proofs.AcceptedLaws.{few-columns, whole-records, few-fragments, accepted-sound, accepted-tags}
+use Rattle.records.proofs.AcceptedLaws.{few-columns, whole-records, few-fragments, accepted-sound, accepted-earlier}
 use Rattle.records.proofs.KeptLaws.{sizes-kept, rows-kept, record-kept}
-use Rattle.conflicts.specs.Services.{unpackLeaves, packLeaves}
+use Rattle.conflicts.specs.Services.{packedStart, packedTag, unpackLeaves, packLeaves}
 use Rattle.records.specs.Algorithm.Kept.{SizesKept}
 use Rattle.packing.specs.Algorithm.Sizes.{PackSized, FragmentsKept}
 use Rattle.packing.specs.RoundTrips.{UnpackThenPack, PackThenUnpack}
 use Rattle.packing.proofs.SizeLaws.{pack-n, pack-exact, pack-m, pack-sized-of}
 use Rattle.packing.proofs.UnpackLaws.{accepted-sized, accepted-records, left-cells, left-tags, unpack-records}
-use Rattle.packing.proofs.FragmentLaws.{kept-small, kept-narrow, kept-tags, fragments-kept-of}
+use Rattle.packing.proofs.FragmentLaws.{kept-small, kept-narrow, kept-earlier, fragments-kept-of}
 use Rattle.packing.proofs.PackLaws.{pack-fragments, accepted-sizes, accepted-fragments, pack-accepts}
 
 -- ---- table, cells and tags, table
@@ -36,6 +37,15 @@ module _ (n : ℕ) (table : List ℕ) (sized : SizesKept n (fragments table) tab
       let few = few-fragments n table _ _ (sized .kept) in
       pack-sized-of (few-columns n table _ _ (sized .kept)) (length-unpackedCells table n ∙ ap (λ (k : ℕ). k * n) (sym m)) (omega arith)
 
+  -- the start and the tag of a record are those that pack would write
+  earlier-unpacked : (i : ℕ) → i < fragments table → earlierRules (startAt table) (tagAt table) i ≡ earlierRules (packedStart n (unpackedCells n table)) (packedTag (unpackedTags table)) i
+  earlier-unpacked i l =
+      earlier-same i
+      (λ h k.
+      let inside : h < fragments table = omega arith in
+      sym (calls-same n (rowOf n (unpackedCells n table) h) (codeAt (recordAt table h)) (row-unpacked table n h inside) .0 ∙ sound-row-start n (recordAt table h) (sound h inside)))
+      (λ h k. sym (tag-unpacked table h (omega arith)))
+
   unpacked-fragments : FragmentsKept n (unpackedCells n table) (unpackedTags table)
   unpacked-fragments =
       let m = length-unpackedTags table in
@@ -47,7 +57,7 @@ module _ (n : ℕ) (table : List ℕ) (sized : SizesKept n (fragments table) tab
       let s = sound-row-span n (recordAt table i) (sound i (within i l)) in
       let w = sound-narrow n (recordAt table i) (sound i (within i l)) in
       omega arith)
-      (λ i l h k e. accepted-tags n table _ _ kept i (within i l) h k (sym (tag-unpacked table h (let g = within i l in omega arith)) ∙ e ∙ tag-unpacked table i (within i l)))
+      (λ i l. subst NoneBroken (earlier-unpacked i (within i l)) (accepted-earlier n table _ _ kept i (within i l)))
 
   pack-unpacked : (out : List ℕ) → length out ≡ length table → packLeaves n (unpackedCells n table) (unpackedTags table) out .outcome ≡ accepted (fragments table)
   pack-unpacked out e =
@@ -82,6 +92,13 @@ module _ (n : ℕ) (cells tags : List ℕ) (sized : PackSized n cells tags) (fra
       let few = pack-m sized in
       record { kept = sizes-kept n (packed n cells tags) _ (pack-n sized) (omega arith) (omega arith) ∙ ap accepted m }
 
+  -- the start and the tag of a record are those of its fragment
+  earlier-packed : (i : ℕ) → i < length tags → earlierRules (startAt (packed n cells tags)) (tagAt (packed n cells tags)) i ≡ earlierRules (packedStart n cells) (packedTag tags) i
+  earlier-packed i l =
+      earlier-same i
+      (λ h k. ap startOf (record-packed n cells tags h (omega arith)) ∙ start-recordOf n (getD tags h 0) (rowOf n cells h) (pack-n sized))
+      (λ h k. tag-packed n cells tags packable h (omega arith))
+
   packed-records : decide (tableRules n (packed n cells tags)) (accepted (fragments (packed n cells tags))) ≡ accepted (fragments (packed n cells tags))
   unfolding tableRules
   packed-records =
@@ -92,7 +109,7 @@ module _ (n : ℕ) (cells tags : List ℕ) (sized : PackSized n cells tags) (fra
       let same = sym (record-packed n cells tags i l) in
       record-kept n (packed n cells tags) i _
       (subst (Sound n) same (recordOf-sound n (getD tags i 0) row (pack-n sized) (kept-small fragments-kept i l) (kept-narrow fragments-kept i l)))
-      (λ h k e. kept-tags fragments-kept i l h k (sym (tag-packed n cells tags packable h (omega arith)) ∙ e ∙ tag-packed n cells tags packable i l)))
+      (subst NoneBroken (sym (earlier-packed i l)) (kept-earlier fragments-kept i l)))
 
   unpack-packed : (cellsOut tagsOut : List ℕ) → length cellsOut ≡ length cells → length tagsOut ≡ length tags → unpackLeaves n (packed n cells tags) cellsOut tagsOut .outcome ≡ accepted (length tags)
   unpack-packed cellsOut tagsOut e d =

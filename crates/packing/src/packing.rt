@@ -1,16 +1,18 @@
 // Pack: cells and tags to a table's records.
 ghost use mathlib.Core.Path.{_≡_};
-ghost use Prim.Native.Nat.{_*_, _<_};
-ghost use lib.ListN.{length, getD};
-ghost use Rattle.below.specs.Below.{_==_, anyBelow};
+ghost use Prim.Native.Nat.{_+_, _*_, _-_, _<_, _≤_};
+ghost use lib.ListN.{length};
+ghost use Rattle.below.specs.Below.{_==_, _<?_, _and_};
 ghost use Rattle.records.specs.Writing.{packed};
 ghost use Rattle.records.specs.Outcome.{accepted, outcomeOf};
-ghost use Rattle.records.specs.Rules.{decide};
-ghost use Rattle.conflicts.specs.Services.{packSizeRules, fragmentRules, packLeaves};
-ghost use Rattle.packing.specs.Algorithm.Sizes.{PackSized, FragmentsKept, fragmentsRules, refuses};
+ghost use Rattle.records.specs.Rules.{decide, tagTwice, precedes};
+ghost use Rattle.conflicts.specs.Services.{packSizeRules, packedStart, packedTag, fragmentRules, packLeaves};
+ghost use Rattle.packing.specs.Algorithm.Sizes.{PackSized, FragmentsKept, Starts, fragmentsRules, refuses};
 use records::Outcome;
+use records::comes_before;
 use writing::any_unknown;
-use writing::calls_span;
+use writing::calls_end;
+use writing::calls_start;
 use writing::write_record;
 
 // Whether a length is m × n, with no product that could overflow.
@@ -46,7 +48,7 @@ fn pack_size_fault(n: usize, cells: &[u8], tags: &[u32]) -> Outcome
 // Whether a fragment before i has the tag of fragment i.
 fn tag_before(tags: &[u32], i: usize) -> bool
     requires { ⌜ i < length (now tags) ⌝ }
-    ensures { λ r. ⌜ r ≡ anyBelow i (λ h. getD (now (tags .entry)) h 0 == getD (now (tags .entry)) i 0) ⌝ }
+    ensures { λ r. ⌜ r ≡ tagTwice (packedTag (now (tags .entry))) i ⌝ }
 {
     let sought = tags[i];
     let mut h = 0;
@@ -59,10 +61,38 @@ fn tag_before(tags: &[u32], i: usize) -> bool
     false
 }
 
-// Fragment i by 6, 4, 9.
-fn fragment_fault(n: usize, cells: &[u8], tags: &[u32], i: usize) -> Outcome
+// Whether fragment i, by its start and its tag, comes before the one that it follows, whose start was the last.
+fn out_of_order(tags: &[u32], i: usize, start: usize, last: usize) -> bool
+    requires { ⌜ i < length (now tags) ⌝ }
+    ensures { λ r. ⌜ r ≡ (0 <? i and precedes start (packedTag (now (tags .entry)) i) last (packedTag (now (tags .entry)) (i - 1))) ⌝ }
+{
+    if i == 0 {
+        return false;
+    }
+    comes_before(start, tags[i], last, tags[i - 1])
+}
+
+// The start that the record of fragment i would have.
+fn start_of(n: usize, cells: &[u8], i: usize) -> usize
+    requires { ⌜ (n ≤ 128) × (i < 128) × (i * n + n ≤ length (now cells)) ⌝ }
+    ensures { λ r. ⌜ r ≡ packedStart n (now (cells .entry)) i ⌝ }
+{
+    let from = i * n;
+    calls_start(&cells[from..from + n])
+}
+
+// Fragment i by 6, 4, 9 and 13, by its start and the last one: no row is looked through for its start twice.
+fn fragment_fault(
+    n: usize,
+    cells: &[u8],
+    tags: &[u32],
+    i: usize,
+    start: usize,
+    last: usize,
+) -> Outcome
     requires { ⌜ PackSized n (now cells) (now tags) ⌝ }
     requires { ⌜ i < length (now tags) ⌝ }
+    requires { ⌜ Starts n (now cells) i start last ⌝ }
     ensures { λ r. ⌜ outcomeOf r ≡ decide (fragmentRules n (now (cells .entry)) (now (tags .entry)) i) (accepted 0) ⌝ }
 {
     let from = i * n;
@@ -70,27 +100,33 @@ fn fragment_fault(n: usize, cells: &[u8], tags: &[u32], i: usize) -> Outcome
     if any_unknown(row) {
         return Outcome::Refused(6, i);
     }
-    if 96 < calls_span(row) {
+    if 96 < calls_end(row) - start {
         return Outcome::Refused(4, i);
     }
     if tag_before(tags, i) {
         return Outcome::Refused(9, i);
     }
+    if out_of_order(tags, i, start, last) {
+        return Outcome::Refused(13, i);
+    }
     Outcome::Accepted(0)
 }
 
-// The fragments from 0, each by 6, 4, 9: the first fault, or the number of tags.
+// The fragments from 0, each by 6, 4, 9 and 13: the first fault, or the number of tags.
 fn fragments_fault(n: usize, cells: &[u8], tags: &[u32]) -> Outcome
     requires { ⌜ PackSized n (now cells) (now tags) ⌝ }
     ensures { λ r. ⌜ outcomeOf r ≡ decide (fragmentsRules n (now (cells .entry)) (now (tags .entry))) (accepted (length (now (tags .entry)))) ⌝ }
 {
     let m = tags.len();
+    let mut last = 0;
     let mut i = 0;
     while i < m {
-        let fault = fragment_fault(n, cells, tags, i);
+        let start = start_of(n, cells, i);
+        let fault = fragment_fault(n, cells, tags, i, start, last);
         if let Outcome::Refused(number, place) = fault {
             return Outcome::Refused(number, place);
         }
+        last = start;
         i += 1;
     }
     Outcome::Accepted(m)

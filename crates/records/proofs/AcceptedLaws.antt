@@ -1,6 +1,6 @@
 -- What an accepted table keeps: the sizes, and its rules in each record.
 -- Assumes nothing.
-use mathlib.Core.Path.{_≡_, refl, sym, ap, _∙_}
+use mathlib.Core.Path.{_≡_, refl, ap, _∙_}
 use mathlib.Core.Logic.{_⊎_, inl, inr}
 use mathlib.Core.List.{List, [], _∷_, List·Memᴰ, List·Memᴰ·head, List·Memᴰ·tail, List·Memᴰ·append-cases, Memᴰ·append-left, Memᴰ·append-right}
 use Prim.Native.Nat.{ℕ, _%_, _≤_, _<_}
@@ -8,14 +8,14 @@ use native.Mathlib.Omega.{arith}
 use lib.Dec.{T}
 use lib.ListN.{length}
 use Rattle.below.specs.Below.{isnt, tab}
-use Rattle.records.specs.Record.{tagOf}
-use Rattle.records.specs.Table.{fragments, recordAt}
+use Rattle.records.specs.Table.{fragments, recordAt, startAt, tagAt}
 use Rattle.records.specs.Outcome.{Verdict, accepted}
 use Rattle.records.specs.Algorithm.Kept.{SizesKept, RecordsKept, GaplessKept}
-use Rattle.records.specs.Rules.{Rule, rule, decide, gapped, tagTwice, spanRules, recordRules, gaplessRules, tableRules, gaplessTableRules, sizeRules}
-use Rattle.below.proofs.BelowLaws.{is-false, isnt-isnt, isnt-<?, ==-eq, none-at, isnt-==}
+use Rattle.records.specs.Rules.{Rule, rule, decide, gapped, earlierRules, spanRules, recordRules, gaplessRules, tableRules, gaplessTableRules, sizeRules}
+use Rattle.below.proofs.BelowLaws.{isnt-isnt, isnt-<?, ==-eq}
 use Rattle.below.proofs.MemberLaws.{concat-of, tab-of}
-use Rattle.records.proofs.RuleLaws.{rule-kept, decide-none, decide-append, accepted-count, unbroken, all-unbroken, rows-unbroken, rows-single}
+use Rattle.records.proofs.RuleLaws.{decide-append, accepted-count, unbroken, all-unbroken, rows-unbroken, rows-single}
+use Rattle.records.proofs.OrderLaws.{NoneBroken}
 use Rattle.records.proofs.PackLaws.{Sound}
 
 module _ (n : ℕ) (table : List ℕ) (j k : ℕ) (e : decide (sizeRules n table) (accepted j) ≡ accepted k) where
@@ -35,7 +35,7 @@ module _ (n : ℕ) (table : List ℕ) (j k : ℕ) (e : decide (sizeRules n table
   few-fragments = isnt-<? 128 _ (unbroken (sizeRules n table) j k e _ (List·Memᴰ·tail (List·Memᴰ·tail (List·Memᴰ·head refl))))
 
 module _ (n : ℕ) (table : List ℕ) (j k : ℕ) (e : decide (tableRules n table) (accepted j) ≡ accepted k) (i : ℕ) (h : i < fragments table) where
-  kept : (r : Rule) → List·Memᴰ r (recordRules n table i) → T (isnt (r .broken))
+  kept : NoneBroken (recordRules n table i)
   unfolding tableRules
   kept r m = unbroken (tableRules n table) j k e r (concat-of m (tab-of (recordRules n table) (fragments table) i h))
 
@@ -49,19 +49,19 @@ module _ (n : ℕ) (table : List ℕ) (j k : ℕ) (e : decide (tableRules n tabl
     ends = kept _ (List·Memᴰ·tail (List·Memᴰ·tail (List·Memᴰ·tail (List·Memᴰ·head refl))));
   }
 
-  -- 9
-  pub accepted-tags : (h : ℕ) → h < i → tagOf (recordAt table h) ≡ tagOf (recordAt table i) → ⊥
-  unfolding recordRules tagTwice
-  accepted-tags g l = isnt-== _ _ (none-at i _ (kept _ (Memᴰ·append-right (spanRules n table i) (List·Memᴰ·head refl))) g l)
+  -- 9 and 13
+  pub accepted-earlier : NoneBroken (earlierRules (startAt table) (tagAt table) i)
+  unfolding recordRules
+  accepted-earlier r m = kept r (Memᴰ·append-right (spanRules n table i) m)
 
-  -- by 4 to 9, 8 alone can be broken
+  -- by 4 to 9 and 13, 8 alone can be broken
   gap-alone : (v : Verdict) → decide (gaplessRules n table i) v ≡ decide (rule 8 i (gapped (recordAt table i)) ∷ []) v
   unfolding gaplessRules recordRules
   gap-alone v =
       decide-append (spanRules n table i) _ v
       ∙ all-unbroken (spanRules n table i) _ (λ r m. kept r (Memᴰ·append-left _ m))
       ∙ decide-append (rule 8 i (gapped (recordAt table i)) ∷ []) _ v
-      ∙ ap (decide (rule 8 i (gapped (recordAt table i)) ∷ [])) (rule-kept _ [] v (sym (is-false _ (kept _ (Memᴰ·append-right (spanRules n table i) (List·Memᴰ·head refl))))) ∙ decide-none v)
+      ∙ ap (decide (rule 8 i (gapped (recordAt table i)) ∷ [])) (all-unbroken _ v accepted-earlier)
 
 -- records that keep the other rules are decided by 8 alone
 pub gaps-decide : (n : ℕ) (table : List ℕ) (j k : ℕ) → decide (tableRules n table) (accepted j) ≡ accepted k → (v : Verdict)
@@ -71,7 +71,7 @@ gaps-decide n table j k e v = rows-single (gaplessRules n table) _ (fragments ta
 
 -- records that keep 8 too: they keep the other rules, and none is gapped
 module _ {n : ℕ} {table : List ℕ} (kept : GaplessKept n table) where
-  rules-kept : (i : ℕ) → i < fragments table → (r : Rule) → List·Memᴰ r (gaplessRules n table i) → T (isnt (r .broken))
+  rules-kept : (i : ℕ) → i < fragments table → NoneBroken (gaplessRules n table i)
   unfolding gaplessTableRules
   rules-kept i h r m = unbroken (gaplessTableRules n table) _ _ (kept .kept) r (concat-of m (tab-of (gaplessRules n table) (fragments table) i h))
 
@@ -79,7 +79,7 @@ module _ {n : ℕ} {table : List ℕ} (kept : GaplessKept n table) where
   unfolding tableRules recordRules gaplessRules
   gapless-records = record { count = fragments table; kept = rows-unbroken (recordRules n table) (fragments table) _ (λ i h r m. rules-kept i h r (go i r (List·Memᴰ·append-cases (spanRules n table i) m))) }
     where
-      go : (i : ℕ) (r : Rule) → List·Memᴰ r (spanRules n table i) ⊎ List·Memᴰ r (rule 9 i (tagTwice table i) ∷ []) → List·Memᴰ r (gaplessRules n table i)
+      go : (i : ℕ) (r : Rule) → List·Memᴰ r (spanRules n table i) ⊎ List·Memᴰ r (earlierRules (startAt table) (tagAt table) i) → List·Memᴰ r (gaplessRules n table i)
       go i r (inl m) = Memᴰ·append-left _ m
       go i r (inr m) = Memᴰ·append-right (spanRules n table i) (List·Memᴰ·tail m)
 

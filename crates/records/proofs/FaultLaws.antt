@@ -2,16 +2,16 @@
 -- Assumes nothing.
 use mathlib.Core.Path.{_≡_, refl, sym, ap, _∙_}
 use mathlib.Core.Bool.{Bool, true, false}
-use mathlib.Core.List.{List, [], _∷_, _++_}
+use mathlib.Core.List.{List, _∷_, _++_}
 use Prim.Native.Nat.{ℕ, _-_, _≤_, _<_, min}
 use native.Mathlib.Nat.{zero-add}
 use native.Mathlib.Omega.{arith}
 use lib.Dec.{T}
 use Rattle.below.specs.Below.{if_then_else_, anyBelow, _==_, _<?_, _and_, _or_}
 use Rattle.records.specs.Record.{spanOf, isCall, cellOf}
-use Rattle.records.specs.Table.{recordAt}
+use Rattle.records.specs.Table.{recordAt, startAt, tagAt}
 use Rattle.records.specs.Outcome.{Verdict}
-use Rattle.records.specs.Rules.{rule, decide, outOfFrame, unknownCall, openEnd, gapped, tagTwice, spanRules, recordRules, gaplessRules}
+use Rattle.records.specs.Rules.{rule, decide, outOfFrame, unknownCall, openEnd, gapped, earlierRules, spanRules, recordRules, gaplessRules}
 use Rattle.records.specs.Algorithm.Kept.{rulesOf}
 use Rattle.below.proofs.BelowLaws.{if-ind, T-isnt, ==-eq, fails, isnt-<?, neither, eq-==, both, or-left, or-right, anyBelow-of, lt-<?}
 use Rattle.records.proofs.ByteLaws.{cell-small}
@@ -21,7 +21,7 @@ use Rattle.records.proofs.ExtentLaws.{Extent, call-of, gap-within}
 
 -- the rules by a switch are those of one list, in which 8 is broken only where the switch is on
 pub switched : (gapless : Bool) (n : ℕ) (table : List ℕ) (i : ℕ) (v : Verdict)
-    → decide (rulesOf gapless n table i) v ≡ decide (spanRules n table i ++ (rule 8 i (gapless and gapped (recordAt table i)) ∷ rule 9 i (tagTwice table i) ∷ [])) v
+    → decide (rulesOf gapless n table i) v ≡ decide (spanRules n table i ++ (rule 8 i (gapless and gapped (recordAt table i)) ∷ earlierRules (startAt table) (tagAt table) i)) v
 unfolding rulesOf gaplessRules recordRules _and_
 switched true n table i v = refl
 switched false n table i v =

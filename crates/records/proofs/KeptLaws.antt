@@ -6,12 +6,12 @@ use Prim.Native.Nat.{ℕ, _%_, _≤_, _<_}
 use lib.Dec.{T}
 use lib.ListN.{length}
 use Rattle.below.specs.Below.{isnt, tab, concat}
-use Rattle.records.specs.Record.{tagOf}
-use Rattle.records.specs.Table.{fragments, recordAt}
+use Rattle.records.specs.Table.{fragments, recordAt, startAt, tagAt}
 use Rattle.records.specs.Outcome.{Verdict, accepted}
-use Rattle.records.specs.Rules.{Rule, decide, tagTwice, spanRules, recordRules, sizeRules}
-use Rattle.below.proofs.BelowLaws.{is-false, T-isnt-isnt, none-of, eq-==, ne-isnt, le-isnt}
-use Rattle.records.proofs.RuleLaws.{rule-kept, decide-none, unbroken, rows-unbroken}
+use Rattle.records.specs.Rules.{Rule, decide, earlierRules, spanRules, recordRules, sizeRules}
+use Rattle.below.proofs.BelowLaws.{is-false, T-isnt-isnt, eq-==, le-isnt}
+use Rattle.records.proofs.RuleLaws.{rule-kept, decide-none, unbroken, all-unbroken, rows-unbroken}
+use Rattle.records.proofs.OrderLaws.{NoneBroken}
 use Rattle.records.proofs.PackLaws.{Sound}
 
 -- a rule that is not broken is passed over
@@ -28,14 +28,12 @@ unfolding sizeRules
 sizes-kept n table v wide whole few =
     rule-unbroken _ _ v (le-isnt _ _ wide) ∙ rule-unbroken _ _ v (T-isnt-isnt _ (eq-== _ _ whole)) ∙ rule-unbroken _ _ v (le-isnt _ _ few) ∙ decide-none v
 
--- 4 to 7 and 9
-pub record-kept : (n : ℕ) (table : List ℕ) (i : ℕ) (v : Verdict) → Sound n (recordAt table i) → ((h : ℕ) → h < i → tagOf (recordAt table h) ≡ tagOf (recordAt table i) → ⊥)
-    → decide (recordRules n table i) v ≡ v
-unfolding recordRules spanRules tagTwice
-record-kept n table i v sound new =
+-- 4 to 7, 9 and 13
+pub record-kept : (n : ℕ) (table : List ℕ) (i : ℕ) (v : Verdict) → Sound n (recordAt table i) → NoneBroken (earlierRules (startAt table) (tagAt table) i) → decide (recordRules n table i) v ≡ v
+unfolding recordRules spanRules
+record-kept n table i v sound earlier =
     rule-unbroken _ _ v (sound .frame)
     ∙ rule-unbroken _ _ v (sound .bits)
     ∙ rule-unbroken _ _ v (sound .codes)
     ∙ rule-unbroken _ _ v (sound .ends)
-    ∙ rule-unbroken _ _ v (none-of i _ (λ h l. ne-isnt _ _ (new h l)))
-    ∙ decide-none v
+    ∙ all-unbroken _ v earlier

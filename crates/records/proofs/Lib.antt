@@ -3,6 +3,7 @@ pub mod FieldLaws
 pub mod ExtentLaws
 pub mod PartLaws
 pub mod RuleLaws
+pub mod OrderLaws
 pub mod FaultLaws
 pub mod OutcomeLaws
 pub mod PackLaws

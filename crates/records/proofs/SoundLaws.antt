@@ -18,6 +18,9 @@ use Rattle.records.proofs.PackLaws.{Sound, sound-small, sound-extent, s
 -- ---- the row of a sound record
 
 module _ (n : ℕ) (r : List ℕ) (x : Sound n r) where
+  pub sound-row-start : callsStart n (codeAt r) ≡ startOf r
+  sound-row-start = extent-one (extent-of n (codeAt r)) (sound-extent n r x) .0
+
   pub sound-row-span : callsSpan n (codeAt r) ≡ spanOf r
   sound-row-span = extent-one (extent-of n (codeAt r)) (sound-extent n r x) .1
 

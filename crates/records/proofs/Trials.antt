@@ -13,7 +13,7 @@ use Rattle.records.specs.Record.{littleEndian, tagOf, startOf, spanOf, b
 use Rattle.records.specs.Table.{fragments, recordAt, position, columnCount, unpackedCells, unpackedTags}
 use Rattle.records.specs.Writing.{bytesOf, cellBytes, callsEnd, callsStart, callsSpan, cut, laidOut, recordOf, rowOf, packed}
 use Rattle.records.specs.Outcome.{Verdict, accepted, refused}
-use Rattle.records.specs.Rules.{decide, outOfFrame, strayBits, unknownCall, openEnd, gapIn, gapped, tagTwice, spanRules, recordRules, gaplessRules, tableRules, gaplessTableRules, sizeRules, tableVerdict}
+use Rattle.records.specs.Rules.{decide, outOfFrame, strayBits, unknownCall, openEnd, gapIn, gapped, tagTwice, precedes, outOfOrder, earlierRules, spanRules, recordRules, gaplessRules, tableRules, gaplessTableRules, sizeRules, tableVerdict}
 use Rattle.records.proofs.TrialTools.{sameVerdict, sameList, filled, made}
 use Rattle.records.proofs.TrialText.{cells, byteOf}
 
@@ -26,7 +26,7 @@ frag tag start span byte7 text = made tag start span byte7 (byteOf (cells text) 
 
 -- ---- trials
 
--- a table's verdict for a column count, that and the one of its records by 4 to 9, or a list of numbers; and what it must be
+-- a table's verdict for a column count, that and the one of its records by 8 too, or a list of numbers; and what it must be
 pub data Trial : Type 0 where
   decides : ℕ → List ℕ → Verdict → Trial
   both : ℕ → List ℕ → Verdict → Verdict → Trial
@@ -38,7 +38,7 @@ unfolding cells frag made filled sameVerdict sameList
     _==_ _<?_ _≤?_ _and_ _or_ isnt anyBelow sumBelow firstBelow endBelow maxBelow tab tabFrom concat
     littleEndian tagOf startOf spanOf byte7Of isCall cellOf codeAt fragments recordAt position columnCount unpackedCells unpackedTags
     bytesOf cellBytes callsEnd callsStart callsSpan cut laidOut recordOf rowOf packed
-    decide outOfFrame strayBits unknownCall openEnd gapIn gapped tagTwice spanRules recordRules gaplessRules tableRules gaplessTableRules sizeRules tableVerdict
+    decide outOfFrame strayBits unknownCall openEnd gapIn gapped tagTwice precedes outOfOrder earlierRules spanRules recordRules gaplessRules tableRules gaplessTableRules sizeRules tableVerdict
 passes (decides n table v) = sameVerdict (tableVerdict n table) v
 passes (both n table v w) = sameVerdict (tableVerdict n table) v and sameVerdict (decide (gaplessTableRules n table) (accepted (fragments table))) w
 passes (lists given expected) = sameList eqb given expected
@@ -66,8 +66,10 @@ pTrials =
     decides 3 printed (accepted 3)
     -- P "no records, n = 0: error-free, all counts 0"
     ∷ decides 0 [] (accepted 0)
-    -- P "AB-, -AB, B-A: refusal 8 at 2", since T-01 from S and F alone
-    ∷ both 3 (frag 1 0 2 0 "AB" ++ frag 2 1 2 0 "AB" ++ frag 3 0 3 0 "B-A") (accepted 3) (refused 8 2)
+    -- P "AB-, -AB, B-A: refusal 8", since T-01 from S and F alone, and since T-02 "tried as AB-, B-A, -AB, with 8 at 1"
+    ∷ both 3 (frag 1 0 2 0 "AB" ++ frag 2 0 3 0 "B-A" ++ frag 3 1 2 0 "AB") (accepted 3) (refused 8 1)
+    -- … and in the old order out of order, where 8 comes first
+    ∷ both 3 (frag 1 0 2 0 "AB" ++ frag 2 1 2 0 "AB" ++ frag 3 0 3 0 "B-A") (refused 13 2) (refused 8 2)
     -- P "start + span = n accepted; n + 1 is refusal 4"
     ∷ decides 3 (frag 1 1 2 0 "AA") (accepted 1)
     ∷ decides 2 (frag 1 1 2 0 "AA") (refused 4 0)
@@ -77,6 +79,35 @@ pTrials =
 pub p-pass : failing 0 pTrials ≡ []
 unfolding failing pTrials
 p-pass = refl
+
+-- A at column 0, with tag 256
+high : List ℕ
+high = filled (0x00 ∷ 0x01 ∷ 0x00 ∷ 0x00 ∷ 0x00 ∷ 0x00 ∷ 0x01 ∷ 0x00 ∷ 0x01 ∷ [])
+
+-- T-02: "records rise by start, and at one start by tag"
+pub risingTrials : List Trial
+unfolding high
+risingTrials =
+    -- equal start and rising tags pass, also where the low byte falls; equal start and falling tags are 13, also where it rises
+    both 3 (frag 1 0 2 0 "AA" ++ frag 2 0 2 0 "AB" ++ high) (accepted 3) (accepted 3)
+    ∷ both 3 (frag 2 0 2 0 "AA" ++ frag 1 0 2 0 "AB") (refused 13 1) (refused 13 1)
+    ∷ both 3 (high ++ frag 1 0 2 0 "AB") (refused 13 1) (refused 13 1)
+    -- rising start passes with any tag; falling start is 13, also where it does not fall under that of record 0
+    ∷ both 3 (frag 9 0 2 0 "AA" ++ frag 8 1 2 0 "AB" ++ frag 7 2 1 0 "B") (accepted 3) (accepted 3)
+    ∷ both 3 (frag 1 1 2 0 "AA" ++ frag 2 0 2 0 "AB") (refused 13 1) (refused 13 1)
+    ∷ both 3 (frag 1 0 2 0 "AA" ++ frag 2 2 1 0 "A" ++ frag 3 1 2 0 "AB") (refused 13 2) (refused 13 2)
+    -- "fragments without calls, whose start is 0, stand by tag among the others there"
+    ∷ both 3 (frag 1 0 2 0 "AA" ++ made 2 0 0 0 [] ++ frag 3 0 2 0 "AB" ++ frag 4 1 2 0 "AB") (accepted 4) (accepted 4)
+    ∷ both 3 (frag 2 0 2 0 "AA" ++ made 1 0 0 0 []) (refused 13 1) (refused 13 1)
+    ∷ both 3 (frag 1 1 2 0 "AA" ++ made 2 0 0 0 []) (refused 13 1) (refused 13 1)
+    -- 9 before 13, at the same start and at a lower one
+    ∷ both 3 (frag 1 0 2 0 "AA" ++ frag 1 0 2 0 "AB") (refused 9 1) (refused 9 1)
+    ∷ both 3 (frag 2 1 2 0 "AA" ++ frag 2 0 2 0 "AB") (refused 9 1) (refused 9 1)
+    ∷ []
+
+pub rising-pass : failing 0 risingTrials ≡ []
+unfolding failing risingTrials
+rising-pass = refl
 
 -- ---- other trials, by topic
 
@@ -141,7 +172,14 @@ orderTrials =
     ∷ both 4 (frag 1 0 4 0 "-A-A") (refused 7 0) (refused 7 0)
     ∷ decides 3 (good ++ frag 1 0 3 0 "-AA") (refused 7 1)
     ∷ both 3 (good ++ frag 1 0 3 0 "B-A") (refused 9 1) (refused 8 1)
+    -- 4 to 8 with 13
+    ∷ decides 2 (frag 2 0 2 0 "AA" ++ frag 1 0 3 0 "AAA") (refused 4 1)
+    ∷ decides 3 (frag 2 0 2 0 "AA" ++ frag 1 0 2 1 "AA") (refused 5 1)
+    ∷ decides 3 (frag 2 0 2 0 "AA" ++ frag 1 0 3 0 "A#A") (refused 6 1)
+    ∷ decides 3 (frag 2 0 2 0 "AA" ++ frag 1 0 3 0 "-AA") (refused 7 1)
+    ∷ both 3 (frag 2 0 2 0 "AA" ++ frag 1 0 3 0 "B-A") (refused 13 1) (refused 8 1)
     -- an earlier record's later rule comes first
+    ∷ decides 3 (frag 2 0 2 0 "AA" ++ good ++ made 3 1 0 0 []) (refused 13 1)
     ∷ both 3 (frag 1 0 3 0 "B-A" ++ made 2 1 0 0 []) (refused 4 1) (refused 8 0)
     ∷ both 3 (good ++ good ++ frag 2 0 3 0 "B-A") (refused 9 1) (refused 9 1)
     ∷ []
@@ -167,6 +205,6 @@ pub others-pass : failing 0 otherTrials ≡ []
 unfolding failing otherTrials
 others-pass = refl
 
--- all trials: paper 01's marked P, and the others
-pub all-pass : (failing 0 pTrials ≡ []) × (failing 0 otherTrials ≡ [])
-all-pass = (p-pass, others-pass)
+-- all trials: paper 01's marked P, T-02's, and the others
+pub all-pass : (failing 0 pTrials ≡ []) × (failing 0 risingTrials ≡ []) × (failing 0 otherTrials ≡ [])
+all-pass = (p-pass, rising-pass, others-pass)

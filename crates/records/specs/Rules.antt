@@ -5,8 +5,8 @@ use mathlib.Core.Bool.{Bool}
 use mathlib.Core.List.{List, [], _∷_, _++_}
 use lib.ListN.{length}
 use Rattle.below.specs.Below.{if_then_else_, _==_, _<?_, _≤?_, _and_, _or_, isnt, anyBelow, tab, concat}
-use Rattle.records.specs.Record.{tagOf, startOf, spanOf, byte7Of, isCall, cellOf}
-use Rattle.records.specs.Table.{fragments, recordAt}
+use Rattle.records.specs.Record.{startOf, spanOf, byte7Of, isCall, cellOf}
+use Rattle.records.specs.Table.{fragments, recordAt, startAt, tagAt}
 use Rattle.records.specs.Outcome.{Verdict, accepted, refused}
 
 -- a rule's number, its place, and whether it is broken
@@ -48,8 +48,20 @@ unfoldable pub gapped : List ℕ → Bool
 gapped r = gapIn (spanOf r) (cellOf r)
 
 -- 9, "tag twice": an earlier record has the tag
-unfoldable pub tagTwice : List ℕ → ℕ → Bool
-tagTwice table i = anyBelow i (λ h. tagOf (recordAt table h) == tagOf (recordAt table i))
+unfoldable pub tagTwice : (ℕ → ℕ) → ℕ → Bool
+tagTwice tag i = anyBelow i (λ h. tag h == tag i)
+
+-- the order of records, "by start, and at one start by tag": one with this start and tag comes before one with the others
+unfoldable pub precedes : ℕ → ℕ → ℕ → ℕ → Bool
+precedes start tag start′ tag′ = start <? start′ or start == start′ and tag <? tag′
+
+-- 13, "out of order": "a record comes before its predecessor in this order"
+unfoldable pub outOfOrder : (ℕ → ℕ) → (ℕ → ℕ) → ℕ → Bool
+outOfOrder start tag i = 0 <? i and precedes (start i) (tag i) (start (i - 1)) (tag (i - 1))
+
+-- record i by 9 and 13, which look at the starts and tags of earlier records; pack's fragments too
+unfoldable pub earlierRules : (ℕ → ℕ) → (ℕ → ℕ) → ℕ → List Rule
+earlierRules start tag i = rule 9 i (tagTwice tag i) ∷ rule 13 i (outOfOrder start tag i) ∷ []
 
 -- record i by 4 to 7, which every service tests
 unfoldable pub spanRules : ℕ → List ℕ → ℕ → List Rule
@@ -60,19 +72,19 @@ spanRules n table i =
     ∷ rule 7 i (openEnd (recordAt table i))
     ∷ []
 
--- record i by 4 to 7 and 9: "holes between calls" are taken
+-- record i by 4 to 7, 9 and 13: "holes between calls" are taken
 unfoldable pub recordRules : ℕ → List ℕ → ℕ → List Rule
-recordRules n table i = spanRules n table i ++ (rule 9 i (tagTwice table i) ∷ [])
+recordRules n table i = spanRules n table i ++ earlierRules (startAt table) (tagAt table) i
 
--- record i by 4 to 9, "S and F keep refusal 8"
+-- record i by 4 to 9 and 13, "S and F keep refusal 8"
 unfoldable pub gaplessRules : ℕ → List ℕ → ℕ → List Rule
-gaplessRules n table i = spanRules n table i ++ (rule 8 i (gapped (recordAt table i)) ∷ rule 9 i (tagTwice table i) ∷ [])
+gaplessRules n table i = spanRules n table i ++ (rule 8 i (gapped (recordAt table i)) ∷ earlierRules (startAt table) (tagAt table) i)
 
--- "records from 0", each by 4 to 7 and 9
+-- "records from 0", each by 4 to 7, 9 and 13
 unfoldable pub tableRules : ℕ → List ℕ → List Rule
 tableRules n table = concat (tab (fragments table) (recordRules n table))
 
--- "records from 0, each by 4 to 9"
+-- "records from 0, each by 4 to 9", and 13
 unfoldable pub gaplessTableRules : ℕ → List ℕ → List Rule
 gaplessTableRules n table = concat (tab (fragments table) (gaplessRules n table))
 

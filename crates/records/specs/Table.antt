@@ -16,6 +16,13 @@ fragments table = length table / 32
 unfoldable pub recordAt : List ℕ → ℕ → List ℕ
 recordAt table i = take 32 (drop (32 * i) table)
 
+-- the start and the tag of record i
+abbrev pub startAt : List ℕ → ℕ → ℕ
+startAt table i = startOf (recordAt table i)
+
+abbrev pub tagAt : List ℕ → ℕ → ℕ
+tagAt table i = tagOf (recordAt table i)
+
 -- where record i starts in the table and how long it is: "the empty part at the table's end" where there is no whole record i
 unfoldable pub partStart : List ℕ → ℕ → ℕ
 partStart table i = if i <? fragments table then 32 * i else length table

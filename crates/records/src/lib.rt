@@ -1,6 +1,7 @@
 // Records of 32 bytes: their fields and cells, and the rules of a table.
 
 mod fields;
+mod order;
 mod rows;
 mod rules;
 mod table;
@@ -11,6 +12,7 @@ pub use fields::is_call;
 pub use fields::span;
 pub use fields::start;
 pub use fields::tag;
+pub use order::comes_before;
 pub use rows::clear;
 pub use rows::fill_row;
 pub use rules::gapless_fault;

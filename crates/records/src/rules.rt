@@ -16,6 +16,7 @@ use crate::fields::code_in;
 use crate::fields::span;
 use crate::fields::start;
 use crate::fields::tag;
+use crate::order::out_of_order;
 use crate::rows::smaller;
 use crate::table::record_at;
 
@@ -120,7 +121,7 @@ fn hole_refused(gapless: bool, worst: usize) -> bool
     false
 }
 
-// Record i by 4 to 7 and 9, and by 8 where it must be gapless. A hole of the span lies between two calls once 6 and 7 are kept.
+// Record i by 4 to 7, 9 and 13, and by 8 where it must be gapless. A hole of the span lies between two calls once 6 and 7 are kept.
 fn record_fault(n: usize, table: &[u8], gapless: bool, i: usize) -> Outcome
     requires { ⌜ i < fragments (now table) ⌝ }
     ensures { λ r. ⌜ outcomeOf r ≡ decide (rulesOf gapless n (now (table .entry)) i) (accepted 0) ⌝ }
@@ -145,6 +146,9 @@ fn record_fault(n: usize, table: &[u8], gapless: bool, i: usize) -> Outcome
     if any_tag(table, tag(part), i) {
         return Outcome::Refused(9, i);
     }
+    if out_of_order(table, i) {
+        return Outcome::Refused(13, i);
+    }
     Outcome::Accepted(0)
 }
 
@@ -164,14 +168,14 @@ fn first_fault(n: usize, table: &[u8], gapless: bool) -> Outcome
     Outcome::Accepted(m)
 }
 
-// The records from 0, each by 4 to 7 and 9: the first fault, or the number of records.
+// The records from 0, each by 4 to 7, 9 and 13: the first fault, or the number of records.
 pub fn records_fault(n: usize, table: &[u8]) -> Outcome
     ensures { λ r. ⌜ outcomeOf r ≡ decide (tableRules n (now (table .entry))) (accepted (fragments (now (table .entry)))) ⌝ }
 {
     first_fault(n, table, false)
 }
 
-// The records from 0, each by 4 to 9: the first fault, or the number of records.
+// The records from 0, each by 4 to 9 and 13: the first fault, or the number of records.
 pub fn gapless_fault(n: usize, table: &[u8]) -> Outcome
     ensures { λ r. ⌜ outcomeOf r ≡ decide (gaplessTableRules n (now (table .entry))) (accepted (fragments (now (table .entry)))) ⌝ }
 {

@@ -5,6 +5,7 @@ use mathlib.Core.List.{List}
 use Prim.Native.Nat.{ℕ, _+_, _*_, _≤_, _<_}
 use lib.Dec.{T}
 use lib.ListN.{length, getD}
+use Rattle.records.specs.Writing.{callsStart}
 use Rattle.conflicts.specs.Grid.{Grid, gapless}
 
 -- the matrix of a flat list of cells, 128 to a fragment; it has at most 128 columns wherever it is used (`Matrix`)
@@ -21,3 +22,7 @@ pub record Matrix (m n : ℕ) (cells : List ℕ) : Type 0 where
 pub record Gapless (g : Grid) : Type 0 where
   pub no-gap : T (gapless g)
   pub codes : (i c : ℕ) → i < g .m → c < g .n → g .cell i c ≤ 2
+
+-- fragments rise by start
+pub record Rising (g : Grid) : Type 0 where
+  pub rises : (p q : ℕ) → p < q → q < g .m → callsStart (g .n) (g .cell p) ≤ callsStart (g .n) (g .cell q)

@@ -9,7 +9,7 @@ use Rattle.records.specs.Table.{fragments}
 use Rattle.records.specs.Outcome.{accepted}
 use Rattle.records.specs.Rules.{Rule, decide, recordRules, gaplessRules, sizeRules, tableRules, gaplessTableRules}
 
--- record i by 4 to 9 where it must be gapless, else without 8
+-- record i by 4 to 9 and 13 where it must be gapless, else without 8
 unfoldable pub rulesOf : Bool → ℕ → List ℕ → ℕ → List Rule
 rulesOf gapless n table i = if gapless then gaplessRules n table i else recordRules n table i
 
@@ -17,7 +17,7 @@ rulesOf gapless n table i = if gapless then gaplessRules n table i else recordRu
 pub record SizesKept (n m : ℕ) (table : List ℕ) : Type 0 where
   pub kept : decide (sizeRules n table) (accepted (fragments table)) ≡ accepted m
 
--- rules 4 to 7 and 9 are kept by every record of a table
+-- rules 4 to 7, 9 and 13 are kept by every record of a table
 pub record RecordsKept (n : ℕ) (table : List ℕ) : Type 0 where
   pub count : ℕ
   pub kept : decide (tableRules n table) (accepted (fragments table)) ≡ accepted count

@@ -1,26 +1,32 @@
 -- `packing::fragment_fault` meets its contract.
 -- Assumes nothing.
-use mathlib.Core.Path.{refl, sym, _∙_}
-use Prim.Native.Nat.{_+_, _*_, _≤_}
+use mathlib.Core.Path.{_≡_, refl, sym, ap, _∙_}
+use mathlib.Core.List.{[], _∷_}
+use Prim.Native.Nat.{ℕ, _+_, _*_, _-_, _≤_}
 use native.Mathlib.Omega.{arith}
 use lib.ListN.{length}
 use borrow.Author.Needs.{needs}
+use Rattle.below.specs.Below.{_<?_}
+use Rattle.records.specs.Outcome.{accepted}
+use Rattle.records.specs.Writing.{callsSpan, rowOf}
+use Rattle.records.specs.Rules.{rule, decide, earlierRules}
 use Rattle.records.proofs.RuleLaws.{rule-broken, rule-kept, decide-none}
 use Rattle.below.proofs.SearchLaws.{<?-true, <?-false}
-use Rattle.packing.proofs.FragmentLaws.{tested-fragment}
 use Rattle.below.proofs.RowLaws.{product-fits}
+use Rattle.conflicts.specs.Services.{packedStart, packedTag, fragmentRules}
+use Rattle.packing.proofs.FragmentLaws.{row-unknown, start-within, span-read, order-read}
 use Rattle.packing.proofs.SizeLaws.{pack-n, pack-m, pack-row}
 use Rattle.packing.proofs.packing.fragment_fault.Statement.{statement}
 use Rattle.packing.proofs.packing.fragment_fault.Tie as tie
 
 -- the fragment's row lies within the cells
 row-in : (c : tie.After-shared-slice-known2) → c .before .before .args .i * c .before .before .args .n + c .before .before .args .n ≤ length (c .before .before .args .cells .now)
-row-in c = pack-row (c .before .before .pre .0) (c .before .before .args .i) (c .before .before .pre .1)
+row-in c = pack-row (c .before .before .pre .0) (c .before .before .args .i) (c .before .before .pre .1 .0)
 
 mul-from : tie.Need-mul-from
 mul-from c =
     let pre = c .before .before .pre in
-    record { fits = product-fits (pack-n (pre .0)) (let h = pack-m (pre .0) in omega arith) }
+    record { fits = product-fits (pack-n (pre .0)) (let h = pack-m (pre .0) in let l = pre .1 .0 in omega arith) }
 
 add-row : tie.Need-add-row
 add-row c = let r = row-in c in omega arith
@@ -29,22 +35,61 @@ part-row-end : tie.Need-part-row-end
 part-row-end c = row-in c
 
 returns : tie.Need-returns
-returns c = sym (tested-fragment _ _ _ refl (row-in (c .before .before .before)) _ _ (c .before .any-unknown .ensures) refl refl ∙ rule-broken _ _ _ (c .if1 .taken))
+unfolding fragmentRules
+returns c =
+    let row = c .before .before .before in
+    sym (rule-broken _ _ _ (sym (row-unknown _ _ _ refl (row-in row)) ∙ sym (c .before .any-unknown .ensures) ∙ c .if1 .taken))
+
+-- 6 is kept
+past-6 : (c : tie.Else1)
+    → let args = c .before .before .before .before .before .args in
+    decide (fragmentRules (args .n) (args .cells .now) (args .tags .now) (args .i)) (accepted 0) ≡ decide (rule 4 (args .i) (96 <? callsSpan (args .n) (rowOf (args .n) (args .cells .now) (args .i))) ∷ earlierRules (packedStart (args .n) (args .cells .now)) (packedTag (args .tags .now)) (args .i)) (accepted 0)
+unfolding fragmentRules
+past-6 c =
+    let row = c .before .before .before in
+    rule-kept _ _ _ (sym (row-unknown _ _ _ refl (row-in row)) ∙ sym (c .before .any-unknown .ensures) ∙ c .if1 .left)
+
+sub-if2 : tie.Need-sub-if2
+sub-if2 c =
+    let row = c .before .before .before .before in
+    start-within _ _ _ refl (row-in row) (row .before .before .pre .1 .1 .here) (c .calls-end .ensures)
+
+span-is : (c : tie.After-calls-end)
+    → let args = c .before .before .before .before .before .before .args in
+    (96 <? callsSpan (args .n) (rowOf (args .n) (args .cells .now) (args .i))) ≡ (96 <? c .calls-end .result - args .start)
+span-is c =
+    let row = c .before .before .before .before in
+    ap (λ (s : ℕ). 96 <? s) (span-read _ _ _ refl (row-in row) (row .before .before .pre .1 .1 .here) (c .calls-end .ensures))
 
 returns-2 : tie.Need-returns-2
-returns-2 c = sym (tested-fragment _ _ _ refl (row-in (c .before .before .before .before .before)) _ _ (c .before .before .before .any-unknown .ensures) (c .before .calls-span .ensures) refl ∙ rule-kept _ _ _ (c .before .before .if1 .left) ∙ rule-broken _ _ _ (<?-true _ _ (c .if2 .taken)))
+returns-2 c = sym (past-6 (c .before .before) ∙ rule-broken _ _ _ (span-is (c .before) ∙ <?-true _ _ (c .if2 .taken)))
+
+-- 4 is kept too
+past-4 : (c : tie.Else2)
+    → let args = c .before .before .before .before .before .before .before .args in
+    decide (fragmentRules (args .n) (args .cells .now) (args .tags .now) (args .i)) (accepted 0) ≡ decide (earlierRules (packedStart (args .n) (args .cells .now)) (packedTag (args .tags .now)) (args .i)) (accepted 0)
+past-4 c = past-6 (c .before .before) ∙ rule-kept _ _ _ (span-is (c .before) ∙ <?-false _ _ (c .if2 .left))
 
 returns-3 : tie.Need-returns-3
-returns-3 c =
-    let if1 = c .before .before .before .before .if1 in
-    let any-unknown = c .before .before .before .before .before .any-unknown in
-    sym (tested-fragment _ _ _ refl (row-in (c .before .before .before .before .before .before .before)) _ _ (any-unknown .ensures) (c .before .before .before .calls-span .ensures) (c .before .tag-before .ensures) ∙ rule-kept _ _ _ (if1 .left) ∙ rule-kept _ _ _ (<?-false _ _ (c .before .before .if2 .left)) ∙ rule-broken _ _ _ (c .if3 .taken))
+unfolding earlierRules
+returns-3 c = sym (past-4 (c .before .before) ∙ rule-broken _ _ _ (sym (c .before .tag-before .ensures) ∙ c .if3 .taken))
+
+-- 9 is kept too
+past-9 : (c : tie.After-out-of-order)
+    → let args = c .before .before .before .before .before .before .before .before .before .before .args in
+    decide (fragmentRules (args .n) (args .cells .now) (args .tags .now) (args .i)) (accepted 0) ≡ decide (rule 13 (args .i) (c .out-of-order .result) ∷ []) (accepted 0)
+unfolding earlierRules
+past-9 c =
+    let start = c .before .before .before .before .before .before .before .before .before .before in
+    past-4 (c .before .before .before)
+    ∙ rule-kept _ _ _ (sym (c .before .before .tag-before .ensures) ∙ c .before .if3 .left)
+    ∙ ap (λ b. decide (rule 13 (start .args .i) b ∷ []) (accepted 0)) (order-read _ _ (start .args .tags .now) (start .args .i) (start .pre .1 .1) (c .out-of-order .ensures))
 
 returns-4 : tie.Need-returns-4
-returns-4 c =
-    let if1 = c .before .before .before .before .if1 in
-    let any-unknown = c .before .before .before .before .before .any-unknown in
-    sym (tested-fragment _ _ _ refl (row-in (c .before .before .before .before .before .before .before)) _ _ (any-unknown .ensures) (c .before .before .before .calls-span .ensures) (c .before .tag-before .ensures) ∙ rule-kept _ _ _ (if1 .left) ∙ rule-kept _ _ _ (<?-false _ _ (c .before .before .if2 .left)) ∙ rule-kept _ _ _ (c .if3 .left) ∙ decide-none _)
+returns-4 c = sym (past-9 (c .before) ∙ rule-broken _ _ _ (c .if4 .taken))
+
+returns-5 : tie.Need-returns-5
+returns-5 c = sym (past-9 (c .before) ∙ rule-kept _ _ _ (c .if4 .left) ∙ decide-none _)
 
 pub fragment-fault-spec : {M : Type 1} → statement M
 fragment-fault-spec =
@@ -58,7 +103,10 @@ fragment-fault-spec =
     (λ c κs. search needs)
     returns
     (λ c κs. search needs)
+    sub-if2
     returns-2
     (λ c κs. search needs)
     returns-3
-    returns-4)
+    (λ c κs. search needs)
+    returns-4
+    returns-5)

@@ -5,6 +5,7 @@ use Prim.Native.Nat.{_-_, _≤_}
 use native.Mathlib.Omega.{arith}
 use lib.ListN.{getD}
 use borrow.Author.Needs.{needs}
+use Rattle.records.specs.Rules.{tagTwice}
 use Rattle.below.specs.Below.{_==_}
 use Rattle.below.proofs.SearchLaws.{NoneBelow, none-yet, none-more, any-hit, any-none, ==-true, ==-false}
 use Rattle.packing.proofs.packing.tag_before.Statement.{statement}
@@ -20,6 +21,7 @@ loop-holds : tie.Need-loop-holds Inv-loop μ-loop
 loop-holds c = (search needs, refl, none-yet _)
 
 returns : tie.Need-returns Inv-loop μ-loop
+unfolding tagTwice
 returns c =
     let loop = c .before .before .before .loop in
     sym (any-hit _ _ (loop .h) (omega arith) (==-true _ _ (c .if1 .taken ∙ loop .inv .1)))
@@ -30,6 +32,7 @@ loop-again c =
     (search needs, loop .inv .1, none-more _ _ (loop .inv .2) (==-false _ _ (λ e. c .if1 .left (e ∙ sym (loop .inv .1)))))
 
 returns-2 : tie.Need-returns-2 Inv-loop μ-loop
+unfolding tagTwice
 returns-2 c = sym (any-none _ _ (c .before .loop .h) (c .loop-test .left) (c .before .loop .inv .2))
 
 pub tag-before-spec : {M : Type 1} → statement M

@@ -1,12 +1,12 @@
 use Prim.Native.Nat.{ℕ}
 use mathlib.Core.List.{[], _∷_}
-use mathlib.Core.Path.{_≡_, sym, ap, _∙_}
+use mathlib.Core.Path.{_≡_, refl, sym, ap, _∙_}
 use lib.ListN.{length}
 use denote.Ref.{now}
 use Rattle.below.specs.Below.{anyBelow, _==_}
 use Rattle.records.specs.Record.{tagOf}
-use Rattle.records.specs.Table.{recordAt}
-use Rattle.records.specs.Rules.{gapped, tagTwice, rule, spanRules, decide}
+use Rattle.records.specs.Table.{recordAt, startAt, tagAt}
+use Rattle.records.specs.Rules.{gapped, tagTwice, earlierRules, rule, spanRules, decide}
 use Rattle.records.specs.Algorithm.Kept.{rulesOf}
 use Rattle.records.specs.Outcome.{accepted}
 use Rattle.records.proofs.PartLaws.{part-record}
@@ -68,7 +68,7 @@ gapped-is c =
 -- 4 to 7 are kept where 8 is tested
 past-7 : (c : tie.After-hole-refused)
     → let args = c .before .before .before .before .before .before .before .before .before .before .before .before .args in
-    decide (rulesOf (args .gapless) (args .n) (args .table .now) (args .i)) (accepted 0) ≡ decide (rule 8 (args .i) (c .hole-refused .result) ∷ rule 9 (args .i) (tagTwice (args .table .now) (args .i)) ∷ []) (accepted 0)
+    decide (rulesOf (args .gapless) (args .n) (args .table .now) (args .i)) (accepted 0) ≡ decide (rule 8 (args .i) (c .hole-refused .result) ∷ earlierRules (startAt (args .table .now)) (tagAt (args .table .now)) (args .i)) (accepted 0)
 unfolding spanRules decide
 past-7 c =
     let part = c .before .before .before .before .before .before .before .before .before .before in
@@ -78,7 +78,7 @@ past-7 c =
 returns-5 : tie.Need-returns-5
 returns-5 c = sym (past-7 (c .before) ∙ rule-broken _ _ _ (c .if5 .taken))
 
-twice-is : (c : tie.After-any-tag) → let args = c .before .before .before .before .before .before .before .before .before .before .before .before .before .before .before .args in tagTwice (args .table .now) (args .i) ≡ c .any-tag .result
+twice-is : (c : tie.After-any-tag) → let args = c .before .before .before .before .before .before .before .before .before .before .before .before .before .before .before .args in tagTwice (tagAt (args .table .now)) (args .i) ≡ c .any-tag .result
 unfolding tagTwice
 twice-is c =
     let part = c .before .before .before .before .before .before .before .before .before .before .before .before .before in
@@ -86,10 +86,25 @@ twice-is c =
     sym (c .any-tag .ensures ∙ ap (λ (t : ℕ). anyBelow (args .i) (λ h. tagOf (recordAt (args .table .now) h) == t)) (c .before .tag .ensures ∙ ap tagOf (part-read part)))
 
 returns-6 : tie.Need-returns-6
+unfolding earlierRules
 returns-6 c = sym (past-7 (c .before .before .before .before) ∙ rule-kept _ _ _ (c .before .before .before .if5 .left) ∙ rule-broken _ _ _ (twice-is (c .before) ∙ c .if6 .taken))
 
+-- 4 to 9 are kept where 13 is tested
+past-9 : (c : tie.After-out-of-order)
+    → let args = c .before .before .before .before .before .before .before .before .before .before .before .before .before .before .before .before .before .args in
+    decide (rulesOf (args .gapless) (args .n) (args .table .now) (args .i)) (accepted 0) ≡ decide (rule 13 (args .i) (c .out-of-order .result) ∷ []) (accepted 0)
+unfolding earlierRules
+past-9 c =
+    past-7 (c .before .before .before .before .before)
+    ∙ rule-kept _ _ _ (c .before .before .before .before .if5 .left)
+    ∙ rule-kept _ _ _ (twice-is (c .before .before) ∙ c .before .if6 .left)
+    ∙ rw (← c .out-of-order .ensures) refl
+
 returns-7 : tie.Need-returns-7
-returns-7 c = sym (past-7 (c .before .before .before .before) ∙ rule-kept _ _ _ (c .before .before .before .if5 .left) ∙ rule-kept _ _ _ (twice-is (c .before) ∙ c .if6 .left) ∙ decide-none _)
+returns-7 c = sym (past-9 (c .before) ∙ rule-broken _ _ _ (c .if7 .taken))
+
+returns-8 : tie.Need-returns-8
+returns-8 c = sym (past-9 (c .before) ∙ rule-kept _ _ _ (c .if7 .left) ∙ decide-none _)
 
 pub record-fault-spec : {M : Type 1} → statement M
 record-fault-spec =
@@ -111,4 +126,6 @@ record-fault-spec =
     (λ c κs. search needs)
     (λ c κs. search needs)
     returns-6
-    returns-7)
+    (λ c κs. search needs)
+    returns-7
+    returns-8)
