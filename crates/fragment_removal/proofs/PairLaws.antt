@@ -20,20 +20,17 @@ use Rattle.ranks.specs.Algorithm.Reading.{code, value, SumFits}
 use Rattle.ranks.specs.Algorithm.Tables.{Sweep, Cleared}
 use Rattle.ranks.proofs.WeightLaws.{places-top, atMost-more}
 use Rattle.ranks.proofs.TableLaws.{parts-small, sweep-none, zeros-at}
-use Rattle.fragment_order.specs.Algorithm.Fragments.{start, Ordered, Begins, stateReach, mayJoin}
+use Rattle.fragment_states.specs.Algorithm.Fragments.{Begins, stateReach, mayJoin}
 use Rattle.fragment_removal.specs.Algorithm.Programme.{furthest, chooseFragment, withFragment, leastFragmentWeight}
 use Rattle.fragment_removal.specs.Algorithm.Pairs.{pairs, flat, Fits, FragmentRoom, Rows, Made, HoldsFragments}
-use Rattle.fragment_removal.proofs.SumLaws.{permuted-sum, lastSum, last-first}
+use Rattle.fragment_removal.proofs.SumLaws.{lastSum, last-first}
 use Rattle.fragment_removal.proofs.ProgrammeLaws.{one-removed, choose-small, programme-small}
 
 -- ---- room
 
 -- the weight of one removal, as a count and a place
-pub removal-of : {v p : ℕ} (q : ℕ) → v ≡ 1 * top + place p → p ≡ q → v ≡ removal q
-removal-of q e is = e ∙ ap (λ (x : ℕ). 1 * top + place x) is ∙ one-top (place q)
-  where
-    one-top : (x : ℕ) → 1 * top + x ≡ top + x
-    one-top x = omega arith
+pub removal-of : {v : ℕ} (p : ℕ) → v ≡ 1 * top + place p → v ≡ removal p
+removal-of p e = omega arith
 
 -- a removal and a weight that has room for it add up
 pub sum-fits : (out b : Rank) {v : ℕ} (others : ℕ) → out .count ≤ 1 → code out + others < top → b .high < 2 ^ 64 → b .low < 2 ^ 64 → value b ≡ v → AtMost 127 others v → SumFits out b
@@ -66,7 +63,7 @@ count-fits out r a b others few fits hh hl e x y z =
 choose-same : {a a′ b b′ : Bool} {out out′ x x′ y y′ z z′ : ℕ} → a ≡ a′ → b ≡ b′ → out ≡ out′ → x ≡ x′ → y ≡ y′ → z ≡ z′ → chooseFragment a b out x y z ≡ chooseFragment a′ b′ out′ x′ y′ z′
 choose-same ea eb eo ex ey ez = rw (ea, eb, eo, ex, ey, ez)
 
--- what the weights and tests of a place come to
+-- what the weights and tests of a fragment come to
 pub chosen-weight : (a b b′ : Bool) (out here : ℕ) {x y z two one gone best r : ℕ} → b ≡ b′ → gone ≡ out + here → best ≡ (if b then min gone two else gone) → r ≡ (if a then min best one else best)
     → one ≡ x → two ≡ y → here ≡ z → r ≡ chooseFragment a b′ out x y z
 chosen-weight a b b′ out here e eg eb er ex ey ez = er ∙ rw (eb, eg, e, ex, ey, ez)
@@ -200,40 +197,39 @@ pub cleared-as : {before new : List ℕ} (old : List ℕ) → Cleared before new
 cleared-as {before} old e same =
     e .zeros ∙ ap (λ (x : ℕ). replicate {A = ℕ} x 0) (sym (length-replicate {A = ℕ} (length before) 0) ∙ ap length (sym (e .zeros)) ∙ same)
 
-module _ (g : Grid) (order : ℕ → ℕ) where
+module _ (g : Grid) where
   -- no fragment yet
-  pub holds-none : (v : ℕ → ℕ → ℕ) → ((h l : ℕ) → v h l ≡ 0) → HoldsFragments g order 0 v
+  pub holds-none : (v : ℕ → ℕ → ℕ) → ((h l : ℕ) → v h l ≡ 0) → HoldsFragments g 0 v
   unfolding leastFragmentWeight
   holds-none v zeros = record { holds = λ h l hh hl. zeros h l }
 
-  module _ (k i : ℕ) (v : ℕ → ℕ → ℕ) (k-in : k < g .m) (is : i ≡ g .m - 1 - k) (held : HoldsFragments g order k v) where
+  module _ (k i : ℕ) (v : ℕ → ℕ → ℕ) (k-in : k < g .m) (is : i ≡ g .m - 1 - k) (held : HoldsFragments g k v) where
     opened : (h l : ℕ) → i ≡ g .m - suc k
-        → withFragment (λ s. mayJoin g order s i) (stateReach g order) (removal (order i)) i (leastFragmentWeight g order k) h l ≡ leastFragmentWeight g order (suc k) h l
+        → withFragment (λ s. mayJoin g s i) (stateReach g) (removal i) i (leastFragmentWeight g k) h l ≡ leastFragmentWeight g (suc k) h l
     unfolding leastFragmentWeight
     opened h l e = rw e
 
-    -- the places of the fragments from i on
-    places-fit : g .m ≤ 128 → Ordered (g .m) (start g) order → place (order i) + lastSum (λ j. place (order j)) (g .m) k < top
+    -- the places of the fragments from i on fit
+    places-fit : g .m ≤ 128 → place i + lastSum place (g .m) k < top
     unfolding lastSum placesOf
-    places-fit small o =
+    places-fit small =
         let at′ : i ≡ g .m - suc k = omega arith in
-        let whole = last-first (λ j. place (order j)) (g .m) (suc k) (omega arith) in
-        let once = permuted-sum (g .m) order (o .below) (o .apart) place in
+        let whole = last-first place (g .m) (suc k) (omega arith) in
         let low = places-top (g .m) everything small in
-        let e = ap (λ (x : ℕ). place (order x)) at′ in
+        let e = ap place at′ in
         omega arith
 
     -- room for the next removal
-    pub holds-room : g .m ≤ 128 → Ordered (g .m) (start g) order → (out : Rank) → out .high < 2 ^ 64 → out .low < 2 ^ 64 → value out ≡ removal (order i) → FragmentRoom out 0 (i + 1) v
-    holds-room small o out hh hl e =
-        let others = lastSum (λ j. place (order j)) (g .m) k in
-        let f = places-fit small o in
-        let parts = parts-small out hh hl e (one-removed (place (order i))) (below _ others f) in
+    pub holds-room : g .m ≤ 128 → (out : Rank) → out .high < 2 ^ 64 → out .low < 2 ^ 64 → value out ≡ removal i → FragmentRoom out 0 (i + 1) v
+    holds-room small out hh hl e =
+        let others = lastSum place (g .m) k in
+        let f = places-fit small in
+        let parts = parts-small out hh hl e (one-removed (place i)) (below _ others f) in
         record {
           others = others;
           few = parts .0;
           fits = within others (parts .1) f;
-          small = λ s q lo hs hq. subst (AtMost 127 others) (sym (held .holds s q (omega arith) (omega arith))) (atMost-more (omega arith) (le-refl others) (programme-small g order k s q));
+          small = λ s q lo hs hq. subst (AtMost 127 others) (sym (held .holds s q (omega arith) (omega arith))) (atMost-more (omega arith) (le-refl others) (programme-small g k s q));
         }
       where
         below : (p s : ℕ) {t : ℕ} → p + s < t → p < t
@@ -243,20 +239,20 @@ module _ (g : Grid) (order : ℕ → ℕ) where
         within s l h = omega arith
 
     -- one fragment more
-    pub holds-more : (may : ℕ → Bool) (reaches : ℕ → ℕ) (out : ℕ) (w : ℕ → ℕ → ℕ) → ((s : ℕ) → s < i + 1 → may s ≡ mayJoin g order s i)
-        → ((s : ℕ) → s < g .m + 1 → reaches s ≡ stateReach g order s) → out ≡ removal (order i) → Made (withFragment may reaches out i v) w (i + 1) → HoldsFragments g order (k + 1) w
+    pub holds-more : (may : ℕ → Bool) (reaches : ℕ → ℕ) (out : ℕ) (w : ℕ → ℕ → ℕ) → ((s : ℕ) → s < i + 1 → may s ≡ mayJoin g s i)
+        → ((s : ℕ) → s < g .m + 1 → reaches s ≡ stateReach g s) → out ≡ removal i → Made (withFragment may reaches out i v) w (i + 1) → HoldsFragments g (k + 1) w
     holds-more may reaches out w joins reach eo made = record { holds = holds }
       where
-        step : (s : ℕ) → s ≤ i → furthest reaches s i ≡ furthest (stateReach g order) s i
+        step : (s : ℕ) → s ≤ i → furthest reaches s i ≡ furthest (stateReach g) s i
         step s l = ap₂ (λ (x y : ℕ). if x <? y then i + 1 else s) (reach s (omega arith)) (reach (i + 1) (omega arith))
 
-        holds : (h l : ℕ) → h ≤ g .m - (k + 1) → l ≤ g .m - (k + 1) → w h l ≡ leastFragmentWeight g order (k + 1) h l
+        holds : (h l : ℕ) → h ≤ g .m - (k + 1) → l ≤ g .m - (k + 1) → w h l ≡ leastFragmentWeight g (k + 1) h l
         holds h l hh hl =
             let hr = furthest-range reaches h i (omega arith) in
             let lr = furthest-range reaches l i (omega arith) in
             made .made h l (omega arith) (omega arith)
             ∙ choose-same (joins h (omega arith)) (joins l (omega arith)) eo
-            (held .holds (furthest reaches h i) l (omega arith) (omega arith) ∙ ap (λ (x : ℕ). leastFragmentWeight g order k x l) (step h (omega arith)))
-            (held .holds h (furthest reaches l i) (omega arith) (omega arith) ∙ ap (leastFragmentWeight g order k h) (step l (omega arith)))
+            (held .holds (furthest reaches h i) l (omega arith) (omega arith) ∙ ap (λ (x : ℕ). leastFragmentWeight g k x l) (step h (omega arith)))
+            (held .holds h (furthest reaches l i) (omega arith) (omega arith) ∙ ap (leastFragmentWeight g k h) (step l (omega arith)))
             (held .holds h l (omega arith) (omega arith))
             ∙ opened h l (omega arith) ∙ rw (add-one k)

@@ -1,5 +1,5 @@
-// The programme over the fragments that remain in the order, in place: one least weight for each pair of states (paper 001, section 5.2).
-use fragment_order::fill_agreements;
+// The programme over the last fragments, one more at a time and in place: one least weight for each pair of states (paper 001, section 5.2).
+use fragment_states::fill_agreements;
 use ranks::rank::Rank;
 use ranks::table;
 ghost use mathlib.Core.Path.{_≡_};
@@ -15,7 +15,7 @@ ghost use Rattle.ranks.specs.Algorithm.Tables.{at, Inside, Sweep};
 ghost use Rattle.fragment_removal.specs.Algorithm.Programme.{furthest, chooseFragment, withFragment};
 ghost use Rattle.fragment_removal.specs.Algorithm.Pairs.{pairs, flat, Prepared, PairPlaces, Fits, FragmentRoom, Made, HoldsFragments};
 
-// The state of a side once the fragment at place i has joined it.
+// The state of a side once the fragment at position i has joined it.
 fn furthest_of(reaches: &[u8], s: usize, i: usize) -> usize
     requires { ⌜ (length (now reaches) ≡ 129) × (s ≤ i) × (i < 128) ⌝ }
     ensures { λ r. ⌜ r ≡ furthest (nth (now (reaches .entry))) s i ⌝ }
@@ -46,7 +46,7 @@ fn lesser_at(best: Rank, may: bool, counts: &[u16], highs: &[u64], lows: &[u64],
     best
 }
 
-// The least weight at states h and l with the fragment at place i before those of the table. It weighs `out` if it is removed, and joins side 1 where it `may`, which is then at state `one`.
+// The least weight at states h and l with the fragment at position i before those of the table. It weighs `out` if it is removed, and joins side 1 where it `may`, which is then at state `one`.
 fn weight_at(
     counts: &[u16],
     highs: &[u64],
@@ -74,7 +74,7 @@ fn weight_at(
     lesser_at(best, may, counts, highs, lows, one * 129 + l)
 }
 
-// The fragment at place i, at state h of side 1 and every state of side 2 before it.
+// The fragment at position i, at state h of side 1 and every state of side 2 before it.
 fn row(
     counts: &mut [u16],
     highs: &mut [u64],
@@ -102,7 +102,7 @@ fn row(
     }
 }
 
-// The fragment at place i, at every pair of states before it.
+// The fragment at position i, at every pair of states before it.
 fn layer(
     counts: &mut [u16],
     highs: &mut [u64],
@@ -125,35 +125,26 @@ fn layer(
     }
 }
 
-// A number of a byte.
-fn wide(x: u8) -> usize
-    ensures { λ r. ⌜ r ≡ x ⌝ }
-{
-    x as usize
-}
-
-// One fragment more, before the last k of the order.
+// One fragment more, before the last k.
 fn extend(
     m: usize,
     n: usize,
     cells: &[u8],
     masks: &[u64],
-    order: &[u8],
     reaches: &[u8],
     counts: &mut [u16],
     highs: &mut [u64],
     lows: &mut [u64],
     k: usize,
 )
-    requires { ⌜ Prepared m n (now cells) (now masks) (now order) (now reaches) × (k < m) × PairPlaces (now counts) (now highs) (now lows)
-        × HoldsFragments (matrixGrid m n (now cells)) (nth (now order)) k (pairs (now counts) (now highs) (now lows)) ⌝ }
-    ensures { λ _. ⌜ HoldsFragments (matrixGrid m n (now (cells .entry))) (nth (now (order .entry))) (k + 1) (pairs (now (counts .exit)) (now (highs .exit)) (now (lows .exit))) ⌝ }
+    requires { ⌜ Prepared m n (now cells) (now masks) (now reaches) × (k < m) × PairPlaces (now counts) (now highs) (now lows)
+        × HoldsFragments (matrixGrid m n (now cells)) k (pairs (now counts) (now highs) (now lows)) ⌝ }
+    ensures { λ _. ⌜ HoldsFragments (matrixGrid m n (now (cells .entry))) (k + 1) (pairs (now (counts .exit)) (now (highs .exit)) (now (lows .exit))) ⌝ }
 {
     let i = m - 1 - k;
     let mut agrees = [0u8; 129];
-    fill_agreements(m, masks, order, i, &mut agrees);
-    let p = wide(order[i]);
-    let out = Rank::single(1, p);
+    fill_agreements(masks, i, &mut agrees);
+    let out = Rank::single(1, i);
     layer(counts, highs, lows, &agrees, reaches, out, i);
 }
 
@@ -163,19 +154,18 @@ fn suffixes(
     n: usize,
     cells: &[u8],
     masks: &[u64],
-    order: &[u8],
     reaches: &[u8],
     counts: &mut [u16],
     highs: &mut [u64],
     lows: &mut [u64],
 )
-    requires { ⌜ Prepared m n (now cells) (now masks) (now order) (now reaches) × PairPlaces (now counts) (now highs) (now lows)
-        × HoldsFragments (matrixGrid m n (now cells)) (nth (now order)) 0 (pairs (now counts) (now highs) (now lows)) ⌝ }
-    ensures { λ _. ⌜ HoldsFragments (matrixGrid m n (now (cells .entry))) (nth (now (order .entry))) m (pairs (now (counts .exit)) (now (highs .exit)) (now (lows .exit))) ⌝ }
+    requires { ⌜ Prepared m n (now cells) (now masks) (now reaches) × PairPlaces (now counts) (now highs) (now lows)
+        × HoldsFragments (matrixGrid m n (now cells)) 0 (pairs (now counts) (now highs) (now lows)) ⌝ }
+    ensures { λ _. ⌜ HoldsFragments (matrixGrid m n (now (cells .entry))) m (pairs (now (counts .exit)) (now (highs .exit)) (now (lows .exit))) ⌝ }
 {
     let mut k = 0;
     while k < m {
-        extend(m, n, cells, masks, order, reaches, counts, highs, lows, k);
+        extend(m, n, cells, masks, reaches, counts, highs, lows, k);
         k += 1;
     }
 }
@@ -192,35 +182,24 @@ fn decode(r: Rank, m: usize, keep: &mut [u8])
     }
 }
 
-// The keep marks of the least removal along an order by start, and how many fragments it removes.
+// The keep marks of the least removal, and how many fragments it removes.
 pub(crate) fn least(
     m: usize,
     n: usize,
     cells: &[u8],
     masks: &[u64],
-    order: &[u8],
     reaches: &[u8],
     work: &mut [u16],
     keep: &mut [u8],
 ) -> usize
-    requires { ⌜ Prepared m n (now cells) (now masks) (now order) (now reaches) × Gapless (matrixGrid m n (now cells)) × (16641 ≤ length (now work)) × (length (now keep) ≡ m) ⌝ }
+    requires { ⌜ Prepared m n (now cells) (now masks) (now reaches) × Gapless (matrixGrid m n (now cells)) × (16641 ≤ length (now work)) × (length (now keep) ≡ m) ⌝ }
     ensures { λ r. ⌜ (now (keep .exit) ≡ fragmentKeepMarks (matrixGrid m n (now (cells .entry)))) × (r ≡ zeros (fragmentKeepMarks (matrixGrid m n (now (cells .entry)))))
         × (now (work .exit) ≡ replicate (length (now (work .entry))) 0) ⌝ }
 {
     let mut highs = [0u64; 16641];
     let mut lows = [0u64; 16641];
     table::clear(work);
-    suffixes(
-        m,
-        n,
-        cells,
-        masks,
-        order,
-        reaches,
-        work,
-        &mut highs,
-        &mut lows,
-    );
+    suffixes(m, n, cells, masks, reaches, work, &mut highs, &mut lows);
     let r = table::get(work, &highs, &lows, 0);
     decode(r, m, keep);
     table::clear(work); // it is handed back all zero

@@ -5,14 +5,13 @@ use mathlib.Core.List.{List}
 use Prim.Native.Nat.{ℕ, _+_, _*_, _-_, _/_, _%_, _≤_, _<_}
 use lib.ListN.{length}
 use Rattle.conflicts.specs.Grid.{Grid}
-use Rattle.matrix.specs.Algorithm.Matrix.{matrixGrid, Matrix}
+use Rattle.matrix.specs.Algorithm.Matrix.{matrixGrid, Matrix, Rising}
 use Rattle.masks.specs.Algorithm.Masks.{Masks}
 use Rattle.ranks.specs.declared.rank.Rank.{Rank}
 use Rattle.ranks.specs.Algorithm.Weight.{top, AtMost}
 use Rattle.ranks.specs.Algorithm.Reading.{code}
 use Rattle.ranks.specs.Algorithm.Tables.{at}
-use Rattle.fragment_order.specs.Algorithm.Fragments.{start, Ordered, Begins, stateReach}
-use Rattle.below.specs.Below.{nth}
+use Rattle.fragment_states.specs.Algorithm.Fragments.{Begins, stateReach}
 use Rattle.fragment_removal.specs.Algorithm.Programme.{leastFragmentWeight}
 
 -- the weight at states h and l
@@ -29,15 +28,14 @@ pub record PairPlaces (counts highs lows : List ℕ) : Type 0 where
   pub highs-size : 16641 ≤ length highs
   pub lows-size : 16641 ≤ length lows
 
--- what the programme reads: a cell matrix, its masks, an order of its fragments by start, and how far each state reaches
-pub record Prepared (m n : ℕ) (cells words order reaches : List ℕ) : Type 0 where
+-- what the programme reads: a cell matrix whose fragments rise by start, its masks, and how far each state reaches
+pub record Prepared (m n : ℕ) (cells words reaches : List ℕ) : Type 0 where
   pub matrix : Matrix m n cells
   pub words-size : length words ≡ 512
   pub masks : Masks (matrixGrid m n cells) words
-  pub order-size : length order ≡ 128
   pub reaches-size : length reaches ≡ 129
-  pub ordered : Ordered m (start (matrixGrid m n cells)) (nth order)
-  pub reaching : Begins (stateReach (matrixGrid m n cells) (nth order)) (m + 1) reaches
+  pub rising : Rising (matrixGrid m n cells)
+  pub reaching : Begins (stateReach (matrixGrid m n cells)) (m + 1) reaches
 
 -- weights that have room for one removal more
 pub record Fits (out : Rank) (one two rest : ℕ) : Type 0 where
@@ -64,6 +62,6 @@ pub record Rows (f old now : ℕ → ℕ → ℕ) (n h : ℕ) : Type 0 where
 pub record Made (f now : ℕ → ℕ → ℕ) (n : ℕ) : Type 0 where
   pub made : (h l : ℕ) → h < n → l < n → now h l ≡ f h l
 
--- a table of weights holds those of the last k fragments of the order, at every pair of states that can stand before them
-pub record HoldsFragments (g : Grid) (order : ℕ → ℕ) (k : ℕ) (v : ℕ → ℕ → ℕ) : Type 0 where
-  pub holds : (h l : ℕ) → h ≤ g .m - k → l ≤ g .m - k → v h l ≡ leastFragmentWeight g order k h l
+-- a table of weights holds those of the last k fragments, at every pair of states that can stand before them
+pub record HoldsFragments (g : Grid) (k : ℕ) (v : ℕ → ℕ → ℕ) : Type 0 where
+  pub holds : (h l : ℕ) → h ≤ g .m - k → l ≤ g .m - k → v h l ≡ leastFragmentWeight g k h l

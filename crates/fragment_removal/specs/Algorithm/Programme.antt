@@ -1,13 +1,13 @@
--- The least weight of the fragments removed, by recursion on the fragments that remain in the order (paper 001, section 5.2).
+-- The least weight of the fragments removed, by recursion on how many of the last fragments are weighed (paper 001, section 5.2).
 -- Assumes nothing.
 use Prim.Native.Nat.{ℕ, zero, suc, _+_, _-_, min}
 use mathlib.Core.Bool.{Bool}
 use Rattle.below.specs.Below.{if_then_else_, _<?_}
 use Rattle.conflicts.specs.Grid.{Grid}
 use Rattle.ranks.specs.Algorithm.Weight.{removal}
-use Rattle.fragment_order.specs.Algorithm.Fragments.{stateReach, mayJoin}
+use Rattle.fragment_states.specs.Algorithm.Fragments.{stateReach, mayJoin}
 
--- the state of a side once the fragment at place i has joined it
+-- the state of a side once the fragment at position i has joined it
 abbrev pub furthest : (ℕ → ℕ) → ℕ → ℕ → ℕ
 furthest reaches s i = if reaches s <? reaches (i + 1) then i + 1 else s
 
@@ -17,13 +17,13 @@ chooseFragment first second out one two rest =
     let w = if second then min (out + rest) two else out + rest in
     if first then min w one else w
 
--- what the fragment at place i makes of the weights of those after it, at states h and l of sides 1 and 2
+-- what the fragment at position i makes of the weights of those after it, at states h and l of sides 1 and 2
 abbrev pub withFragment : (ℕ → Bool) → (ℕ → ℕ) → ℕ → ℕ → (ℕ → ℕ → ℕ) → ℕ → ℕ → ℕ
 withFragment may reaches out i v h l = chooseFragment (may h) (may l) out (v (furthest reaches h i) l) (v h (furthest reaches l i)) (v h l)
 
--- the least weight of the last k fragments of the order, at states h and l
-unfoldable pub leastFragmentWeight : Grid → (ℕ → ℕ) → ℕ → ℕ → ℕ → ℕ
-leastFragmentWeight g order zero h l = 0
-leastFragmentWeight g order (suc k) h l =
+-- the least weight of the last k fragments, at states h and l
+unfoldable pub leastFragmentWeight : Grid → ℕ → ℕ → ℕ → ℕ
+leastFragmentWeight g zero h l = 0
+leastFragmentWeight g (suc k) h l =
     let i = g .m - suc k in
-    withFragment (λ s. mayJoin g order s i) (stateReach g order) (removal (order i)) i (leastFragmentWeight g order k) h l
+    withFragment (λ s. mayJoin g s i) (stateReach g) (removal i) i (leastFragmentWeight g k) h l

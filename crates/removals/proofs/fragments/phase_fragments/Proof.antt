@@ -5,11 +5,11 @@ use lib.ListN.{length, length-replicate}
 use mathlib.Core.Path.{ap, _∙_}
 use native.Mathlib.Omega.{arith}
 use borrow.Author.Needs.{needs}
-use Rattle.records.proofs.AcceptedLaws.{sized-n, sized-m}
+use Rattle.records.proofs.AcceptedLaws.{gapless-records, sized-n, sized-m}
 use Rattle.conflicts.specs.Choice.{zeros}
 use Rattle.conflicts.proofs.MarkLaws.{all-kept-part}
 use Rattle.conflicts.proofs.SideLaws.{all-length}
-use Rattle.matrix.proofs.KeptLaws.{table-matrix, table-gapless}
+use Rattle.matrix.proofs.KeptLaws.{table-matrix, table-gapless, table-rising}
 use Rattle.removals.proofs.TableRemovalLaws.{table-fragments, table-fragment-answer}
 use Rattle.removals.proofs.fragments.phase_fragments.Statement.{statement}
 use Rattle.removals.proofs.fragments.phase_fragments.Tie as tie
@@ -20,8 +20,14 @@ fill-masks-requires c κs = let p = c .before .before .before .before .before .b
 fragment-keep-marks-requires : tie.Need-fragment-keep-marks-requires
 fragment-keep-marks-requires c κs =
     let p = c .before .before .before .before .before .before .before .before .before .before .before .before .pre in
-    let h = p .1 .1 .1 .0 in
-    (table-matrix (p .0) (p .1 .1 .0), c .before .before .before .before .fill-masks .ensures, table-gapless (p .0) (p .1 .1 .0) (p .1 .0), omega arith, p .1 .1 .1 .1 .0)
+    let h = p .1 .1 .1 .0 in (
+      table-matrix (p .0) (p .1 .1 .0),
+      c .before .before .before .before .fill-masks .ensures,
+      table-gapless (p .0) (p .1 .1 .0) (p .1 .0),
+      table-rising (p .0) (p .1 .1 .0) (gapless-records (p .1 .0)),
+      omega arith,
+      p .1 .1 .1 .1 .0,
+    )
 
 part-phase-end : tie.Need-part-phase-end
 part-phase-end c =

@@ -1,0 +1,38 @@
+-- How far fragments and the states of a side reach, and which fragments agree with a state (paper 001, section 5.2).
+-- Assumes nothing.
+use mathlib.Core.Path.{_≡_}
+use mathlib.Core.Bool.{Bool, true}
+use mathlib.Core.List.{List}
+use Prim.Native.Nat.{ℕ, zero, suc, _<_}
+use Rattle.below.specs.Below.{_==_, nth}
+use Rattle.records.specs.Writing.{callsEnd}
+use Rattle.conflicts.specs.Grid.{Grid, agree}
+use Rattle.masks.specs.Algorithm.Places.{anywhere, placesWhere, conflictSize}
+use Rattle.masks.specs.Algorithm.Masks.{lineAt}
+
+-- one past the last called column of a fragment, 0 without calls
+unfoldable pub reach : Grid → ℕ → ℕ
+reach g p = callsEnd (g .n) (g .cell p)
+
+-- a list begins with f 0, …, f (n - 1)
+pub record Begins (f : ℕ → ℕ) (n : ℕ) (list : List ℕ) : Type 0 where
+  pub begins : (i : ℕ) → i < n → nth list i ≡ f i
+
+-- a side's state: 0 if no fragment is kept on it, and else one more than the position of the one "that reaches furthest"; how far that one reaches
+unfoldable pub stateReach : Grid → ℕ → ℕ
+stateReach g zero = 0
+stateReach g (suc h) = reach g h
+
+-- the fragment at position i agrees with a side's state
+unfoldable pub mayJoin : Grid → ℕ → ℕ → Bool
+mayJoin g zero i = true
+mayJoin g (suc h) i = agree g h i
+
+-- two fragments agree by the words of their masks: the number of columns on which they conflict is 0
+unfoldable pub wordsAgree : List ℕ → ℕ → ℕ → Bool
+wordsAgree words p q = conflictSize (placesWhere anywhere) (lineAt words p) (lineAt words q) == 0
+
+-- the fragment at position i agrees with a side's state, by the words
+unfoldable pub wordsJoin : List ℕ → ℕ → ℕ → Bool
+wordsJoin words zero i = true
+wordsJoin words (suc h) i = wordsAgree words h i

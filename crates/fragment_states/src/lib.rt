@@ -1,0 +1,5 @@
+// The states of a side of a cell matrix: how far each reaches, and which fragments may join it.
+mod fragments;
+
+pub use fragments::fill_agreements;
+pub use fragments::fill_reaches;
