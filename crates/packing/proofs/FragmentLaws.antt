@@ -16,8 +16,7 @@ use Rattle.records.specs.Rules.{precedes, outOfOrder, earlierRules}
 use Rattle.below.proofs.BelowLaws.{both, isnt-<?, le-≤?, le-isnt, any-ext, none-at, none-of}
 use Rattle.below.proofs.SearchLaws.{<?-false}
 use Rattle.below.proofs.MemberLaws.{concat-of, tab-of}
-use Rattle.records.proofs.RuleLaws.{unbroken, all-unbroken}
-use Rattle.records.proofs.OrderLaws.{NoneBroken}
+use Rattle.records.proofs.RuleLaws.{NoneBroken, unbroken, all-unbroken}
 use Rattle.records.proofs.KeptLaws.{rule-unbroken, rows-kept}
 use Rattle.records.proofs.PackLaws.{calls-same, recordOf-same}
 use Rattle.writing.proofs.ScanLaws.{start-le-end}

@@ -10,7 +10,8 @@ use Rattle.records.specs.Table.{fragments, recordAt, startAt, tagAt, unpackedCe
 use Rattle.records.specs.Writing.{rowOf, packed}
 use Rattle.records.specs.Outcome.{accepted}
 use Rattle.records.specs.Rules.{decide, earlierRules, tableRules}
-use Rattle.records.proofs.OrderLaws.{NoneBroken, earlier-same}
+use Rattle.records.proofs.RuleLaws.{NoneBroken}
+use Rattle.records.proofs.OrderLaws.{earlier-same}
 use Rattle.records.proofs.PackLaws.{Sound, calls-same, sound-narrow, start-recordOf}
 use Rattle.records.proofs.SoundLaws.{sound-row-start, sound-row-span, sound-row-small, recordOf-sound}
 use Rattle.records.proofs.TableLaws.{Packable, length-whole, length-unpackedCells, length-unpackedTags, tag-unpacked, row-unpacked, table-again, length-packed, fragments-packed, record-packed, tag-packed, tags-again, unpacked-again}

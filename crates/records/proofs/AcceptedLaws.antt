@@ -11,11 +11,11 @@ use Rattle.below.specs.Below.{isnt, tab}
 use Rattle.records.specs.Table.{fragments, recordAt, startAt, tagAt}
 use Rattle.records.specs.Outcome.{Verdict, accepted}
 use Rattle.records.specs.Algorithm.Kept.{SizesKept, RecordsKept, GaplessKept}
-use Rattle.records.specs.Rules.{Rule, rule, decide, gapped, earlierRules, spanRules, recordRules, gaplessRules, tableRules, gaplessTableRules, sizeRules}
+use Rattle.records.specs.Rules.{Rule, rule, decide, gapped, precedes, earlierRules, spanRules, recordRules, gaplessRules, tableRules, gaplessTableRules, sizeRules}
 use Rattle.below.proofs.BelowLaws.{isnt-isnt, isnt-<?, ==-eq}
 use Rattle.below.proofs.MemberLaws.{concat-of, tab-of}
-use Rattle.records.proofs.RuleLaws.{decide-append, accepted-count, unbroken, all-unbroken, rows-unbroken, rows-single}
-use Rattle.records.proofs.OrderLaws.{NoneBroken}
+use Rattle.records.proofs.RuleLaws.{NoneBroken, decide-append, accepted-count, unbroken, all-unbroken, rows-unbroken, rows-single}
+use Rattle.records.proofs.OrderLaws.{records-rise}
 use Rattle.records.proofs.PackLaws.{Sound}
 
 module _ (n : ℕ) (table : List ℕ) (j k : ℕ) (e : decide (sizeRules n table) (accepted j) ≡ accepted k) where
@@ -62,6 +62,11 @@ module _ (n : ℕ) (table : List ℕ) (j k : ℕ) (e : decide (tableRules n tabl
       ∙ all-unbroken (spanRules n table i) _ (λ r m. kept r (Memᴰ·append-left _ m))
       ∙ decide-append (rule 8 i (gapped (recordAt table i)) ∷ []) _ v
       ∙ ap (decide (rule 8 i (gapped (recordAt table i)) ∷ [])) (all-unbroken _ v accepted-earlier)
+
+-- each record of an accepted table comes before every later one
+pub accepted-rise : (n : ℕ) (table : List ℕ) (j k : ℕ) → decide (tableRules n table) (accepted j) ≡ accepted k
+    → (p q : ℕ) → p < q → q < fragments table → T (precedes (startAt table p) (tagAt table p) (startAt table q) (tagAt table q))
+accepted-rise n table j k e = records-rise (fragments table) (startAt table) (tagAt table) (accepted-earlier n table j k e)
 
 -- records that keep the other rules are decided by 8 alone
 pub gaps-decide : (n : ℕ) (table : List ℕ) (j k : ℕ) → decide (tableRules n table) (accepted j) ≡ accepted k → (v : Verdict)

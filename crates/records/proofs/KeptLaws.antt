@@ -10,8 +10,7 @@ use Rattle.records.specs.Table.{fragments, recordAt, startAt, tagAt}
 use Rattle.records.specs.Outcome.{Verdict, accepted}
 use Rattle.records.specs.Rules.{Rule, decide, earlierRules, spanRules, recordRules, sizeRules}
 use Rattle.below.proofs.BelowLaws.{is-false, T-isnt-isnt, eq-==, le-isnt}
-use Rattle.records.proofs.RuleLaws.{rule-kept, decide-none, unbroken, all-unbroken, rows-unbroken}
-use Rattle.records.proofs.OrderLaws.{NoneBroken}
+use Rattle.records.proofs.RuleLaws.{NoneBroken, rule-kept, decide-none, unbroken, all-unbroken, rows-unbroken}
 use Rattle.records.proofs.PackLaws.{Sound}
 
 -- a rule that is not broken is passed over

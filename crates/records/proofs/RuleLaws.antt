@@ -96,20 +96,24 @@ module _ (ss ts : List (List Rule)) (j : ℕ) (v : Verdict) where
 pub accepted-count : (rs : List Rule) (j k : ℕ) → decide rs (accepted j) ≡ accepted k → j ≡ k
 accepted-count rs j k e = let f = decide-accepted rs j k (accepted j) e in cc
 
--- … and none of them is broken
-pub unbroken : (rs : List Rule) (j k : ℕ) → decide rs (accepted j) ≡ accepted k → (r : Rule) → List·Memᴰ r rs → T (isnt (r .broken))
+-- none of the rules is broken
+abbrev pub NoneBroken : List Rule → Type 0
+NoneBroken rs = (r : Rule) → List·Memᴰ r rs → T (isnt (r .broken))
+
+-- rules that accept have none broken
+pub unbroken : (rs : List Rule) (j k : ℕ) → decide rs (accepted j) ≡ accepted k → NoneBroken rs
 unfolding decide isnt
 unbroken [] j k e r m = elim m [ ]
 unbroken (s ∷ rs) j k e r m = go (unbroken rs j k) (s .broken) refl e m
   where
-    go : (decide rs (accepted j) ≡ accepted k → (r : Rule) → List·Memᴰ r rs → T (isnt (r .broken))) → (b : Bool) → s .broken ≡ b
+    go : (decide rs (accepted j) ≡ accepted k → NoneBroken rs) → (b : Bool) → s .broken ≡ b
         → (if b then refused (s .number) (s .place) else decide rs (accepted j)) ≡ accepted k → List·Memᴰ r (s ∷ rs) → T (isnt (r .broken))
     go rest true is f n = absurd (let z : _≡_ {A = ℕ} 0 1 = cc in omega arith)
     go rest false is f (List·Memᴰ·head p) = subst (λ (b : Bool). T (isnt b)) (sym (ap (λ (q : Rule). q .broken) p ∙ is)) tt
     go rest false is f (List·Memᴰ·tail n) = rest f r n
 
 -- rules of which none is broken leave the verdict
-pub all-unbroken : (rs : List Rule) (v : Verdict) → ((r : Rule) → List·Memᴰ r rs → T (isnt (r .broken))) → decide rs v ≡ v
+pub all-unbroken : (rs : List Rule) (v : Verdict) → NoneBroken rs → decide rs v ≡ v
 all-unbroken [] v f = decide-none v
 all-unbroken (r ∷ rs) v f = rule-kept r rs v (sym (is-false _ (f r (List·Memᴰ·head refl)))) ∙ all-unbroken rs v (λ s m. f s (List·Memᴰ·tail m))
 
@@ -118,7 +122,7 @@ pub accepted-stage : (stages : List (List Rule)) (j k : ℕ) → decide (concat 
 accepted-stage stages j k e rs m = all-unbroken rs (accepted j) (λ r h. unbroken (concat stages) j k e r (concat-of h m))
 
 -- rows of rules of which none is broken leave the verdict
-pub rows-unbroken : (f : ℕ → List Rule) (m : ℕ) (v : Verdict) → ((i : ℕ) → i < m → (r : Rule) → List·Memᴰ r (f i) → T (isnt (r .broken))) → decide (concat (tab m f)) v ≡ v
+pub rows-unbroken : (f : ℕ → List Rule) (m : ℕ) (v : Verdict) → ((i : ℕ) → i < m → NoneBroken (f i)) → decide (concat (tab m f)) v ≡ v
 rows-unbroken f m v kept = all-unbroken _ v (λ r h.
     let a = concat-at (tab m f) h in
     let b = tab-at f m (a .1) in
