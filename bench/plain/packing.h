@@ -15,12 +15,15 @@ static bool tag_repeats(const uint32_t *tags, size_t i) {
     return false;
 }
 
-// Fragment i by 6, 4, 9.
-static outcome fragment_fault(size_t n, const uint8_t *row, const uint32_t *tags, size_t i) {
+// Fragment i by 6, 4, 9, 13. `last` is the order of the fragment before it, and then its own.
+static outcome fragment_fault(size_t n, const uint8_t *row, const uint32_t *tags, size_t i, uint64_t *last) {
     if (any_unknown(n, row)) return refused(6, i);
     size_t start = first_call(n, row), end = past_calls(n, row);
     if (end - start > CELLS) return refused(4, i);
     if (tag_repeats(tags, i)) return refused(9, i);
+    uint64_t order = order_of(start, tags[i]);
+    if (order < *last) return refused(13, i);
+    *last = order;
     return accepted(0);
 }
 
@@ -30,8 +33,9 @@ static outcome pack_fault(size_t n, const uint8_t *cells, size_t cells_length, c
     if (cells_length != m * n) return refused(1, 0);
     if (m > MOST) return refused(2, 0);
     if (length != m * RECORD) return refused(11, 0);
+    uint64_t last = 0;
     for (size_t i = 0; i < m; i++) {
-        outcome fault = fragment_fault(n, cells + i * n, tags, i);
+        outcome fault = fragment_fault(n, cells + i * n, tags, i, &last);
         if (fault.number != 0) return fault;
     }
     return accepted(m);

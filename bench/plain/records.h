@@ -1,4 +1,4 @@
-// The 32-byte record: its fields and cells, the rules 1 to 9 of a table, unpack and find.
+// The 32-byte record: its fields and cells, the rules 1 to 9 and 13 of a table, unpack and find.
 #ifndef RECORDS_H
 #define RECORDS_H
 #include <stdbool.h>
@@ -26,6 +26,9 @@ static inline size_t start_of(const uint8_t *record) { return record[4] | (size_
 static inline size_t span_of(const uint8_t *record) { return record[6]; }
 static inline uint8_t cell_of(const uint8_t *record, size_t i) { return record[8 + i / 4] >> 2 * (i % 4) & 3; }
 static inline bool is_call(uint8_t code) { return code == A || code == B; }
+
+// What the records of a table rise by: the start, and at one start the tag.
+static inline uint64_t order_of(size_t start, uint32_t tag) { return (uint64_t)start << 32 | tag; }
 
 // The first called column of a row, and one past the last; 0 without calls.
 static size_t first_call(size_t n, const uint8_t *row) {
@@ -71,7 +74,14 @@ static bool tag_before(const uint8_t *table, size_t i) {
     return false;
 }
 
-// Record i by 4 to 7 and 9, and by 8 where it must be gapless.
+static inline uint64_t order_at(const uint8_t *table, size_t i) {
+    const uint8_t *record = table + RECORD * i;
+    return order_of(start_of(record), tag_of(record));
+}
+
+static bool out_of_order(const uint8_t *table, size_t i) { return i > 0 && order_at(table, i) < order_at(table, i - 1); }
+
+// Record i by 4 to 7, 9 and 13, and by 8 where it must be gapless.
 static outcome record_fault(size_t n, const uint8_t *table, size_t i, bool gapless) {
     const uint8_t *record = table + RECORD * i;
     if (out_of_frame(n, record)) return refused(4, i);
@@ -80,6 +90,7 @@ static outcome record_fault(size_t n, const uint8_t *table, size_t i, bool gaple
     if (open_end(record)) return refused(7, i);
     if (gapless && any_code(record, HOLE)) return refused(8, i);
     if (tag_before(table, i)) return refused(9, i);
+    if (out_of_order(table, i)) return refused(13, i);
     return accepted(0);
 }
 

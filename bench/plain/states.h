@@ -1,21 +1,11 @@
-// The states of the least fragment removal: the order of the fragments, and one more of them at every pair of furthest-reaching ones.
+// The states of the least fragment removal: one fragment more at every pair of furthest-reaching ones. State 0 is none, and state s fragment s - 1.
 #ifndef STATES_H
 #define STATES_H
 #include "ranks.h"
 
 enum { STATES = MOST + 1 };
 
-// The positions by start, one sort key after the other.
-static void sort_by_start(size_t m, size_t n, const uint8_t *cells, uint8_t *order) {
-    uint8_t starts[MOST];
-    for (size_t p = 0; p < m; p++) starts[p] = first_call(n, cells + p * MOST);
-    size_t k = 0;
-    for (size_t start = 0; start <= n; start++)
-        for (size_t p = 0; p < m; p++)
-            if (starts[p] == start) order[k++] = p;
-}
-
-// The fragment at place i of the order, before those of the table, at every pair of states.
+// Fragment i, before those of the table, at every pair of states. The records are by start, as the programme needs them.
 static void add_fragment(ranks t, const uint8_t *restrict agrees, const uint8_t *restrict reaches, rank out, size_t i) {
     for (size_t h = 0; h <= i; h++) {
         size_t one = reaches[h] < reaches[i + 1] ? i + 1 : h;

@@ -95,41 +95,61 @@ pub fn agree_on_all(all: &All) -> Result<String, String> {
 #[cfg(test)]
 mod tests {
     use super::*;
+    use crate::rules;
     use crate::tables::table;
     use std::collections::BTreeSet;
+    use std::sync::OnceLock;
+
+    /// The outcome of all for a request.
+    fn outcome(request: Request) -> Outcome {
+        agree(request, &ALL).unwrap_or_else(|message| panic!("{message}")).outcome
+    }
+
+    /// What `--check` asks, and the outcome of all.
+    fn outcomes() -> &'static [(Request, Outcome)] {
+        static OUTCOMES: OnceLock<Vec<(Request, Outcome)>> = OnceLock::new();
+        OUTCOMES.get_or_init(|| requests().map(|request| (request, outcome(request))).collect())
+    }
 
     /// The numbers by which a service refuses what `--check` asks of it.
     fn refusals(service: Service) -> Vec<u8> {
-        let lefts = requests().filter(|request| request.service == service).map(|request| agree(request, &ALL));
-        let outcomes = lefts.map(|left| left.unwrap_or_else(|message| panic!("{message}")).outcome);
-        let numbers: BTreeSet<u8> = outcomes.filter_map(number).collect();
+        let asked = outcomes().iter().filter(|(request, _)| request.service == service);
+        let numbers: BTreeSet<u8> =
+            asked.filter_map(|(_, outcome)| refusal(*outcome)).map(|(number, _)| number).collect();
         numbers.into_iter().collect()
     }
 
-    fn number(outcome: Outcome) -> Option<u8> {
+    fn refusal(outcome: Outcome) -> Option<(u8, usize)> {
         match outcome {
             Outcome::Accepted(_) => None,
-            Outcome::Refused(number, _) => Some(number),
+            Outcome::Refused(number, place) => Some((number, place)),
         }
     }
 
     #[test]
     fn every_rule_of_a_record_refuses_some_request() {
         for service in [Service::Unpack, Service::Check, Service::ConflictCounts] {
-            assert_eq!(refusals(service), [4, 5, 6, 7, 9]);
+            assert_eq!(refusals(service), [4, 5, 6, 7, 9, 13]);
         }
         for service in [Service::S, Service::F] {
-            assert_eq!(refusals(service), [4, 5, 6, 7, 8, 9]);
+            assert_eq!(refusals(service), [4, 5, 6, 7, 8, 9, 13]);
         }
-        assert_eq!(refusals(Service::C), [4, 5, 6, 7, 9, 12]);
-        assert_eq!(refusals(Service::Pack), [4, 6, 9]);
+        assert_eq!(refusals(Service::C), [4, 5, 6, 7, 9, 12, 13]);
+        assert_eq!(refusals(Service::Pack), [4, 6, 9, 13]);
         assert_eq!(refusals(Service::Find), []);
+    }
+
+    #[test]
+    fn the_rules_decide_every_request() {
+        for &(request, outcome) in outcomes() {
+            let fault = rules::fault(request.service, &rules::fragments(request));
+            assert_eq!(refusal(outcome), fault, "{request}");
+        }
     }
 
     /// The outcome of all for a sound table.
     fn sound(service: Service, kind: Kind) -> Outcome {
-        let request = Request { service, kind, seed: 1, form: Form::Sound };
-        agree(request, &ALL).unwrap_or_else(|message| panic!("{message}")).outcome
+        outcome(Request { service, kind, seed: 1, form: Form::Sound })
     }
 
     #[test]

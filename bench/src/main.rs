@@ -5,6 +5,8 @@ mod buffers;
 mod plain;
 mod random;
 mod request;
+#[cfg(test)]
+mod rules;
 mod services;
 mod tables;
 mod timing;

@@ -3,9 +3,16 @@
 use crate::buffers::Buffers;
 use crate::random::Random;
 use crate::services::{Call, Service};
-use crate::tables::{self, Kind, MOST};
+use crate::tables::{self, Kind, Table, A, CELLS, MOST};
 use haplotypes::RECORD;
 use std::fmt;
+
+const HOLE: u8 = 0;
+const NO_CALL: u8 = 3;
+
+/// The rules that a record can break, and a row of cells that is to be packed, in the order in which they are tested.
+const OF_RECORDS: [u8; 7] = [4, 5, 6, 7, 8, 9, 13];
+const OF_ROWS: [u8; 4] = [6, 4, 9, 13];
 
 #[derive(Clone, Copy, PartialEq, Eq, Debug)]
 pub enum Form {
@@ -19,14 +26,19 @@ pub enum Form {
     Miscalled,
     /// The last fragment has the first one's tag.
     Repeated,
+    /// A fragment and the one before it are in each other's place.
+    Swapped,
+    /// A fragment breaks one of the rules and all later ones, and the last fragment the first rule.
+    Broken,
 }
 
 impl Form {
     pub fn of(service: Service) -> &'static [Form] {
+        use Form::*;
         match service {
-            Service::Find => &[Form::Sound, Form::Absent, Form::Changed, Form::Miscalled, Form::Repeated],
-            Service::Pack => &[Form::Sound, Form::Changed, Form::Repeated],
-            _ => &[Form::Sound, Form::Changed, Form::Miscalled, Form::Repeated],
+            Service::Find => &[Sound, Absent, Changed, Miscalled, Repeated, Swapped, Broken],
+            Service::Pack => &[Sound, Changed, Repeated, Swapped, Broken],
+            _ => &[Sound, Changed, Miscalled, Repeated, Swapped, Broken],
         }
     }
 }
@@ -63,9 +75,19 @@ impl Request {
             _ => buffers.table.lent().copy_from_slice(&table.records),
         }
         self.spoil(&mut random, &mut buffers);
-        let last = MOST as u32 - 1;
-        let tag = if self.form == Form::Absent { last + 1 } else { last };
-        (Call { service: self.service, n: MOST, tag }, buffers)
+        (Call { service: self.service, n: MOST, tag: self.sought(&table) }, buffers)
+    }
+
+    fn sought(&self, table: &Table) -> u32 {
+        let last = table.tags[MOST - 1];
+        match self.form {
+            // one that differs from the last in a single bit
+            Form::Absent => {
+                let mut near = (0..32).map(|bit| last ^ 1 << bit);
+                near.find(|tag| !table.tags.contains(tag)).expect("some tag is absent")
+            }
+            _ => last,
+        }
     }
 
     fn dirt(&self) -> u64 {
@@ -84,7 +106,80 @@ impl Request {
             (Form::Miscalled, _) => table[RECORD * random.below(MOST) + 8 + random.below(2)] ^= change,
             (Form::Repeated, Service::Pack) => tags[MOST - 1] = tags[0],
             (Form::Repeated, _) => table.copy_within(0..4, (MOST - 1) * RECORD),
+            (Form::Swapped, Service::Pack) => swap_rows(cells, tags, 1 + random.below(MOST - 1)),
+            (Form::Swapped, _) => swap(table, RECORD, 1 + random.below(MOST - 1)),
+            (Form::Broken, Service::Pack) => {
+                break_row(cells, tags, broken_at(random), self.rules_from_one(&OF_ROWS));
+                cells[MOST * (MOST - 1)] = NO_CALL;
+            }
+            (Form::Broken, _) => {
+                break_record(table, broken_at(random), self.rules_from_one(&OF_RECORDS));
+                table[RECORD * (MOST - 1) + 6] = CELLS as u8 + 1;
+            }
         }
+    }
+
+    /// The rules from one of them on, which is another for the next kind or seed.
+    fn rules_from_one<'a>(&self, rules: &'a [u8]) -> &'a [u8] {
+        &rules[(self.kind as usize + self.seed as usize) % rules.len()..]
+    }
+}
+
+/// Fragment i, which has so many numbers, and the one before it in each other's place.
+fn swap<T>(numbers: &mut [T], width: usize, i: usize) {
+    numbers[width * (i - 1)..width * (i + 1)].rotate_left(width);
+}
+
+fn swap_rows(cells: &mut [u8], tags: &mut [u32], i: usize) {
+    swap(cells, MOST, i);
+    swap(tags, 1, i);
+}
+
+/// Neither of the first two fragments nor the last: with start 0 and the first one's tag it comes before the second,
+/// and so before its predecessor.
+fn broken_at(random: &mut Random) -> usize {
+    2 + random.below(MOST - 3)
+}
+
+/// Breaks rules at record i: 13 alone, or 9 too and those before it.
+fn break_record(table: &mut [u8], i: usize, rules: &[u8]) {
+    let broken = |rule| rules.contains(&rule);
+    if !broken(9) {
+        return swap(table, RECORD, i);
+    }
+    table.copy_within(0..4, RECORD * i);
+    let record = &mut table[RECORD * i..RECORD * (i + 1)];
+    record[4..].fill(0);
+    let mut codes = [A; 6];
+    if broken(8) {
+        codes[2] = HOLE;
+    }
+    if broken(7) {
+        codes[0] = HOLE;
+    }
+    if broken(6) {
+        codes[4] = NO_CALL;
+    }
+    codes.iter().enumerate().for_each(|(k, code)| record[8 + k / 4] |= code << (2 * (k % 4)));
+    record[6] = if broken(4) { CELLS + 1 } else { codes.len() } as u8;
+    record[7] = broken(5) as u8;
+}
+
+/// The same for a row of cells and its tag.
+fn break_row(cells: &mut [u8], tags: &mut [u32], i: usize, rules: &[u8]) {
+    let broken = |rule| rules.contains(&rule);
+    if !broken(9) {
+        return swap_rows(cells, tags, i);
+    }
+    tags[i] = tags[0];
+    let row = &mut cells[MOST * i..MOST * (i + 1)];
+    row.fill(HOLE);
+    row[0] = A;
+    if broken(4) {
+        row[CELLS] = A;
+    }
+    if broken(6) {
+        row[1] = NO_CALL;
     }
 }
 
@@ -97,6 +192,8 @@ impl fmt::Display for Request {
             Form::Changed => out.write_str(", a byte changed"),
             Form::Miscalled => out.write_str(", a cell changed"),
             Form::Repeated => out.write_str(", a tag repeated"),
+            Form::Swapped => out.write_str(", two fragments swapped"),
+            Form::Broken => out.write_str(", several rules broken"),
         }
     }
 }

@@ -1,18 +1,20 @@
-//! Full tables, 128 fragments over 128 columns, of a kind and drawn from a seed.
+//! Full tables, 128 fragments over 128 columns, of a kind and drawn from a seed. Their records rise by start, and at
+//! one start by tag.
 
 use crate::random::Random;
 use haplotypes::RECORD;
+use std::collections::BTreeSet;
 use std::fmt;
 use std::ops::{Range, RangeInclusive};
 
 /// The most fragments of a table, and the most columns.
 pub const MOST: usize = 128;
-const CELLS: usize = 96;
+pub const CELLS: usize = 96;
 /// The fewest columns of two mates with a hole between them.
 const PAIR: usize = 3;
 /// The most fragments over a column that C accepts.
 const DEPTH: usize = 8;
-const A: u8 = 1;
+pub const A: u8 = 1;
 const B: u8 = 2;
 
 #[derive(Clone, Copy, PartialEq, Eq, Debug)]
@@ -34,10 +36,12 @@ pub enum Kind {
     ShallowMates,
     /// Mates of one call each, so that a column has few calls and many stretches over it.
     Ends,
+    /// All at column 0 and so in order by their tags alone, most of them without calls.
+    Front,
 }
 
 impl Kind {
-    pub const ALL: [Kind; 15] = {
+    pub const ALL: [Kind; 16] = {
         use Kind::*;
         [
             Typical,
@@ -55,12 +59,14 @@ impl Kind {
             Mates,
             ShallowMates,
             Ends,
+            Front,
         ]
     };
 
     /// Whether C accepts its tables, whatever the seed.
     pub fn is_within_depth(self) -> bool {
-        matches!(self, Kind::Empty | Kind::Single | Kind::Shallow | Kind::Deep | Kind::ShallowMates)
+        use Kind::*;
+        matches!(self, Empty | Single | Shallow | Deep | ShallowMates | Front)
     }
 
     /// Whether its fragments are mate pairs, each with a hole between the mates.
@@ -94,6 +100,7 @@ impl Kind {
             Kind::Mates => (16..=96, 20, Haplotypes, Anywhere),
             Kind::ShallowMates => (PAIR..=96, 20, Haplotypes, TiledPairs),
             Kind::Ends => (16..=96, 20, Haplotypes, Anywhere),
+            Kind::Front => (1..=96, 20, Haplotypes, Left),
         };
         Parameters { spans, errors_per_mille, letters, places, longest_mate: self.longest_mate() }
     }
@@ -128,6 +135,8 @@ enum Places {
     TiledPairs,
     /// Fragment i at column i.
     Diagonal,
+    /// All at column 0, with calls in every sixteenth fragment alone.
+    Left,
 }
 
 struct Parameters {
@@ -166,22 +175,27 @@ pub fn table(kind: Kind, seed: u64) -> Table {
     let mut random = Random::new(seed);
     let parameters = kind.parameters(&mut random);
     let haplotype = (0..MOST).map(|_| A + random.below(2) as u8).collect();
-    let table =
-        Table { records: vec![0; MOST * RECORD], cells: vec![0; MOST * MOST], tags: (0..MOST as u32).collect() };
-    let mut generator = Generator { random, parameters, haplotype, table };
+    let mut generator = Generator { random, parameters, haplotype, fragments: Vec::new() };
     match generator.parameters.places {
         Places::Tiled => generator.tile(),
         Places::TiledPairs => generator.tile_pairs(),
         _ => generator.scatter(),
     }
-    generator.table
+    generator.table()
+}
+
+/// The codes of a fragment from its start on.
+struct Fragment {
+    start: usize,
+    codes: Vec<u8>,
 }
 
 struct Generator {
     random: Random,
     parameters: Parameters,
     haplotype: Vec<u8>,
-    table: Table,
+    /// as they are drawn
+    fragments: Vec<Fragment>,
 }
 
 impl Generator {
@@ -189,7 +203,7 @@ impl Generator {
         let mut depth = [0; MOST];
         for i in 0..MOST {
             let (start, span) = self.place(i, &mut depth);
-            self.write(i, start, span);
+            self.add(start, span);
         }
     }
 
@@ -197,11 +211,17 @@ impl Generator {
         let (places, least, most) =
             (self.parameters.places, *self.parameters.spans.start(), *self.parameters.spans.end());
         for tries in 1.. {
-            let mut span = least + self.random.below(most - least + 1);
-            if places == Places::Limited && tries > 1000 {
-                span = 0;
-            }
-            let start = if places == Places::Diagonal { i } else { self.random.below(MOST - span + 1) };
+            let drawn = least + self.random.below(most - least + 1);
+            let span = match places {
+                Places::Limited if tries > 1000 => 0,
+                Places::Left if i % (MOST / DEPTH) > 0 => 0,
+                _ => drawn,
+            };
+            let start = match places {
+                Places::Diagonal => i,
+                Places::Left => 0,
+                _ => self.random.below(MOST - span + 1),
+            };
             if places != Places::Limited || fits(&mut depth[start..start + span]) {
                 return (start, span);
             }
@@ -211,13 +231,12 @@ impl Generator {
 
     /// Eight rows of 16 fragments, each row cut at random, so that eight fragments are on every column.
     fn tile(&mut self) {
-        for row in 0..DEPTH {
+        for _ in 0..DEPTH {
             let mut start = 0;
-            for i in 0..16 {
-                let left = 15 - i;
+            for left in (0..16).rev() {
                 let most = MOST - start - left;
                 let span = if left == 0 { most } else { 1 + self.random.below(most.min(15)) }.min(CELLS);
-                self.write(DEPTH * i + row, start, span);
+                self.add(start, span);
                 start += span;
             }
         }
@@ -225,15 +244,13 @@ impl Generator {
 
     /// Eight rows, of 8 and of 24 mate pairs in turn, cut at random: the first of a row are mostly the longest.
     fn tile_pairs(&mut self) {
-        let mut p = 0;
         for pairs in [8, 24].repeat(DEPTH / 2) {
             let mut start = 0;
             for left in (0..pairs).rev() {
                 let most = (MOST - start - PAIR * left).min(CELLS);
                 let span = if left == 0 { most } else { PAIR + self.random.below(most - PAIR + 1) };
-                self.write(p, start, span);
+                self.add(start, span);
                 start += span;
-                p += 1;
             }
         }
     }
@@ -245,25 +262,45 @@ impl Generator {
         1 + self.random.below(most)..span - 1 - self.random.below(most)
     }
 
-    /// Fragment p's calls from a start over a span, of one of two opposite haplotypes.
-    fn write(&mut self, p: usize, start: usize, span: usize) {
+    /// A fragment's calls from a start over a span, of one of two opposite haplotypes.
+    fn add(&mut self, start: usize, span: usize) {
         let other = self.random.below(2) == 1;
         let hole = self.hole(span);
-        let record = &mut self.table.records[RECORD * p..RECORD * (p + 1)];
-        record[0] = p as u8;
-        record[4] = if span == 0 { 0 } else { start as u8 };
-        record[6] = span as u8;
+        let mut codes = vec![0; span];
         for i in (0..span).filter(|i| !hole.contains(i)) {
             let erroneous = self.random.below(1000) < self.parameters.errors_per_mille;
-            let code = match self.parameters.letters {
+            codes[i] = match self.parameters.letters {
                 Letters::Haplotypes if other != erroneous => A + B - self.haplotype[start + i],
                 Letters::Haplotypes => self.haplotype[start + i],
                 Letters::AtRandom => A + self.random.below(2) as u8,
                 Letters::AllA => A,
             };
-            record[8 + i / 4] |= code << (2 * (i % 4));
-            self.table.cells[MOST * p + start + i] = code;
         }
+        self.fragments.push(Fragment { start: if span == 0 { 0 } else { start }, codes });
+    }
+
+    /// The fragments in order. Their tags rise as they were drawn, over all 32 bits and in pairs that differ in the
+    /// lowest alone: no part of a tag tells the order.
+    fn table(mut self) -> Table {
+        let mut tags = BTreeSet::new();
+        while tags.len() < MOST {
+            let tag = self.random.next() as u32;
+            tags.extend([tag & !1, tag | 1]);
+        }
+        let mut tagged: Vec<_> = tags.into_iter().zip(self.fragments).collect();
+        tagged.sort_by_key(|(tag, fragment)| (fragment.start, *tag));
+        let mut table = Table { records: vec![0; MOST * RECORD], cells: vec![0; MOST * MOST], tags: Vec::new() };
+        let rows = table.records.chunks_mut(RECORD).zip(table.cells.chunks_mut(MOST));
+        for ((tag, fragment), (record, cells)) in tagged.iter().zip(rows) {
+            let Fragment { start, codes } = fragment;
+            record[..4].copy_from_slice(&tag.to_le_bytes());
+            record[4] = *start as u8;
+            record[6] = codes.len() as u8;
+            codes.iter().enumerate().for_each(|(i, code)| record[8 + i / 4] |= code << (2 * (i % 4)));
+            cells[*start..start + codes.len()].copy_from_slice(codes);
+            table.tags.push(*tag);
+        }
+        table
     }
 }
 
@@ -292,7 +329,18 @@ mod tests {
     /// The figures of docs/PERFORMANCE.md are those of the very same tables.
     #[test]
     fn tables_stay_the_same() {
-        assert_eq!((sum(false), sum(true)), (0x8992d40bdcf7c623, 0xf5f73d36d7438132));
+        assert_eq!((sum(false), sum(true)), (0xf3d7dc34b43f0d29, 0xd1b7dfed67f67dba));
+    }
+
+    #[test]
+    fn records_rise_by_start_and_tag() {
+        for kind in Kind::ALL {
+            let records = table(kind, 1).records;
+            let start = |record: &[u8]| u16::from_le_bytes([record[4], record[5]]);
+            let tag = |record: &[u8]| u32::from_le_bytes([record[0], record[1], record[2], record[3]]);
+            let places: Vec<_> = records.chunks(RECORD).map(|record| (start(record), tag(record))).collect();
+            assert!(places.windows(2).all(|two| two[0] < two[1]), "{kind}");
+        }
     }
 
     #[test]

@@ -3,6 +3,7 @@
 use crate::agree::{agree, agree_on_all, requests, ALL, LIBRARY};
 use crate::buffers::{Buffers, Guarded, GUARD};
 use crate::request::{Form, Request};
+use crate::rules;
 use crate::services::{Call, Implementation, Service};
 use crate::tables::{table, Kind};
 use crate::timing::{measure, Effort};
@@ -25,11 +26,11 @@ fn accepted() -> impl Iterator<Item = Request> {
     sound().filter(Request::must_be_accepted)
 }
 
-/// Every service that refuses, on a table that it refuses, and on mate pairs if it does not take them.
+/// Every service that refuses, on a tag twice, on fragments out of order, and on mate pairs if it does not take them.
 fn refused() -> impl Iterator<Item = Request> {
-    let services = Service::ALL.into_iter().filter(|&service| service != Service::Find);
-    let repeated = services.map(|service| request(service, Kind::Shallow, Form::Repeated));
-    repeated.chain(sound().filter(|request| !request.must_be_accepted()))
+    let forms = [Form::Repeated, Form::Swapped].into_iter();
+    let requests = forms.flat_map(|form| Service::ALL.map(|service| request(service, Kind::Shallow, form)));
+    requests.chain(sound()).filter(|request| !request.must_be_accepted())
 }
 
 fn see(noticed: Result<(), String>, name: &str, request: Request) {
@@ -124,6 +125,26 @@ fn a_refusal_for_an_acceptance() {
 #[test]
 fn an_acceptance_for_a_refusal() {
     refused().for_each(|request| each_is_noticed(request, |_, _, _| Outcome::Accepted(0)));
+}
+
+#[test]
+fn wrong_rules() {
+    for service in Service::ALL {
+        let requests = requests().filter(|request| request.service == service);
+        let given: Vec<_> = requests.map(|request| (request, rules::fragments(request))).collect();
+        for wrong in rules::wrong_rules(service) {
+            let differs = |fragments: &[_]| (wrong.fault)(fragments) != rules::fault(service, fragments);
+            let told = given.iter().find(|(_, fragments)| differs(fragments));
+            let (request, fragments) = told.unwrap_or_else(|| panic!("unnoticed: {} in {service}", wrong.name));
+            each_is_noticed(*request, |before, buffers, _| {
+                buffers.copy_from(before);
+                match (wrong.fault)(fragments) {
+                    Some((number, place)) => Outcome::Refused(number, place),
+                    None => Outcome::Accepted(0),
+                }
+            });
+        }
+    }
 }
 
 #[test]
