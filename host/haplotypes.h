@@ -12,6 +12,8 @@
  * calls, and those after it 0. Two mates are one fragment, with holes between them, which all services but S and F take. A fragment without calls
  * has span 0 and start 0.
  *
+ * Records rise by start, and at one start by tag, as 32-bit numbers. A fragment without calls stands by its tag among those at start 0.
+ *
  * Answers. An answer has 3n + 2m bytes, in five sections:
  *
  *   keep marks    n   1 a kept column, 0 a removed one (by S alone)
@@ -38,10 +40,10 @@
  *
  * Refusals. The first rule that is broken decides:
  *
- *   unpack, check, conflict_counts   3, 1, 2, 11; then the records from 0 on, each by 4, 5, 6, 7, 9
- *   S, F                             3, 1, 2, 10, 11; then the records from 0 on, each by 4, 5, 6, 7, 8, 9
+ *   unpack, check, conflict_counts   3, 1, 2, 11; then the records from 0 on, each by 4, 5, 6, 7, 9, 13
+ *   S, F                             3, 1, 2, 10, 11; then the records from 0 on, each by 4, 5, 6, 7, 8, 9, 13
  *   C                                3, 1, 2, 10, 11; then the records as for check; then 12
- *   pack                             3, 1, 2, 11; then the fragments from 0 on, each by 6, 4, 9
+ *   pack                             3, 1, 2, 11; then the fragments from 0 on, each by 6, 4, 9, 13
  *   find                             refuses nothing
  */
 #ifndef PIKONDAUR_HAPLOTYPES_H
@@ -71,7 +73,7 @@ enum {
     HAPLOTYPES_REMOVED_BLOCK = 255
 };
 
-/* The refusals by their numbers. The place is the fragment's position for 4 to 9, the lowest such column for 12, and else 0. */
+/* The refusals by their numbers. The place is the fragment's position for 4 to 9 and 13, the lowest such column for 12, and else 0. */
 enum {
     HAPLOTYPES_ACCEPTED = 0,            /* none */
     HAPLOTYPES_RAGGED = 1,              /* bytes not a multiple of 32; for pack, cells not m * n */
@@ -85,7 +87,8 @@ enum {
     HAPLOTYPES_TAG_TWICE = 9,           /* the tag of an earlier fragment */
     HAPLOTYPES_SHORT_WORK = 10,         /* work under 32768 numbers */
     HAPLOTYPES_WRONG_BUFFER = 11,       /* an output's length is not exact */
-    HAPLOTYPES_TOO_DEEP = 12            /* by C alone: over 8 fragments whose stretch from first to last call covers a column */
+    HAPLOTYPES_TOO_DEEP = 12,           /* by C alone: over 8 fragments whose stretch from first to last call covers a column */
+    HAPLOTYPES_OUT_OF_ORDER = 13        /* a start below that of the fragment before, or the same start and a lower tag */
 };
 
 /* The bytes of stack that must be free below the caller's frame: what was measured on full tables, with some room. host/stack/test measures
@@ -123,12 +126,13 @@ HAPLOTYPES_SERVICE haplotypes_count haplotypes_unpack(size_t n, const uint8_t *t
                                                       uint8_t *cells, size_t cells_length, uint32_t *tags, size_t tags_length);
 
 /* The table of m fragments, m being tags_length, from their cells and tags: the reverse of unpack. Returns m.
- * Exact: cells_length is m * n, or the call is refused (1), and table_length is 32 * m (11). */
+ * Exact: cells_length is m * n, or the call is refused (1), and table_length is 32 * m (11). The fragments are given in the order of the records
+ * (13): they rise by their first called column, 0 without calls, and then by tag. */
 HAPLOTYPES_SERVICE haplotypes_count haplotypes_pack(size_t n, const uint8_t *cells, size_t cells_length,
                                                     const uint32_t *tags, size_t tags_length, uint8_t *table, size_t table_length);
 
 /* The byte at which the first whole record with the tag starts; table_length where none has it.
- * Takes any bytes, whole records or not; what follows the last whole record is not looked at. */
+ * Takes any bytes, whole records or not, in any order; what follows the last whole record is not looked at. */
 HAPLOTYPES_SERVICE size_t haplotypes_find(uint32_t tag, const uint8_t *table, size_t table_length);
 
 /* Can the table's fragments be put in two classes with no conflict inside a class? On a yes the answer has the first such classes as sides;

@@ -45,15 +45,18 @@ static const uint8_t same[][32] = {RECORD(1, 0, 2, 5), RECORD(2, 0, 2, 5)}; /* A
 static const uint8_t same_answer[] = {1, 1, 1, 1, 0, 0, 1, 1, 0, 1};
 static const uint8_t opposite[][32] = {RECORD(1, 0, 2, 5), RECORD(2, 0, 2, 10)}; /* AA, BB */
 static const uint8_t opposite_counts[] = {0, 2, 2, 0};
-static const uint8_t apart[][32] = {RECORD(1, 0, 1, 1), RECORD(2, 2, 1, 2), RECORD(3, 0, 0, 0)}; /* A--, --B, --- */
+static const uint8_t apart[][32] = {RECORD(1, 0, 1, 1), RECORD(2, 0, 0, 0), RECORD(3, 2, 1, 2)}; /* A--, ---, --B */
 static const uint8_t apart_answer[] = {1, 1, 1, 1, 0, 2, 0, 0, 0, 1, 1, 1, 0, 1, 2};
 
-/* AB-, -AB, B-A: the gapped triangle, in which each two conflict on a column of their own; C turns the first B */
-static const uint8_t triangle[][32] = {RECORD(10, 0, 2, 0x09), RECORD(11, 1, 2, 0x09), RECORD(12, 0, 3, 0x12)};
-static const uint8_t triangle_cells[] = {1, 2, 0, 0, 1, 2, 2, 0, 1};
+/* AB-, B-A, -AB: the gapped triangle, in which each two conflict on a column of their own; C turns the B of the second */
+static const uint8_t triangle[][32] = {RECORD(10, 0, 2, 0x09), RECORD(11, 0, 3, 0x12), RECORD(12, 1, 2, 0x09)};
+static const uint8_t triangle_cells[] = {1, 2, 0, 2, 0, 1, 0, 1, 2};
 static const uint8_t triangle_counts[] = {0, 1, 1, 1, 0, 1, 1, 1, 0};
-static const uint8_t triangle_c[] = {1, 1, 1, 1, 1, 2, 2, 0, 1, 1, 1, 2, 0, 0, 0}; /* 111 AAB B-A 112 0,0,0 */
-static const uint8_t triangle_corrected[][32] = {RECORD(10, 0, 2, 0x05), RECORD(11, 1, 2, 0x09), RECORD(12, 0, 3, 0x12)};
+static const uint8_t triangle_c[] = {1, 1, 1, 1, 2, 1, 0, 1, 2, 1, 1, 2, 0, 0, 0}; /* 111 ABA -AB 112 0,0,0 */
+static const uint8_t triangle_corrected[][32] = {RECORD(10, 0, 2, 0x09), RECORD(11, 0, 3, 0x11), RECORD(12, 1, 2, 0x09)};
+/* AB-, -AB, B-A: the last starts before the second */
+static const uint8_t triangle_unordered[][32] = {RECORD(10, 0, 2, 0x09), RECORD(11, 1, 2, 0x09), RECORD(12, 0, 3, 0x12)};
+static const uint8_t triangle_unordered_cells[] = {1, 2, 0, 0, 1, 2, 2, 0, 1};
 
 static const uint8_t mates[][32] = {RECORD(1, 0, 3, 0x21), RECORD(2, 0, 3, 0x12)}; /* A-B, B-A */
 static const uint8_t mates_cells[] = {1, 0, 2, 2, 0, 1}, mates_counts[] = {0, 2, 2, 0};
@@ -67,6 +70,20 @@ static const uint8_t far_error_corrected[][32] = {RECORD(1, 0, 4, 0x41), RECORD(
 static const uint8_t wide_tags[][32] = {{0xEF, 0xCD, 0xAB, 0x89}, {0xFF, 0xFF, 0xFF, 0xFF}};
 static const uint32_t wide_tags_read[] = {0x89ABCDEF, 0xFFFFFFFF};
 
+/* in order: tags that rise while their low bytes fall, and up to and over the high bit; A-, -A, -B, of which the first has the highest tag; fragments
+ * without calls before, between and after A and B, by their tags */
+static const uint8_t rising_tags[][32] = {{0xFF}, {0, 1}, {0xFF, 0xFF}, {0, 0, 1}, {0xFF, 0xFF, 0xFF, 0x7F}, {0, 0, 0, 0x80}};
+static const uint32_t rising_tags_read[] = {0xFF, 0x100, 0xFFFF, 0x10000, 0x7FFFFFFF, 0x80000000};
+static const uint8_t rising_tags_answer[] = {1, 1, 1, 1, 1, 1, 0, 1, 2, 3, 4, 5}; /* . . . 111111 0,1,2,3,4,5 */
+static const uint8_t rising_start[][32] = {RECORD(3, 0, 1, 1), RECORD(1, 1, 1, 1), RECORD(2, 1, 1, 2)};
+static const uint8_t rising_start_cells[] = {1, 0, 0, 1, 0, 2};
+static const uint32_t rising_start_tags[] = {3, 1, 2};
+static const uint8_t rising_start_answer[] = {1, 1, 1, 1, 0, 2, 1, 1, 2, 0, 1, 1}; /* 11 AA -B 112 0,1,1 */
+static const uint8_t among[][32] = {RECORD(1, 0, 0, 0), RECORD(2, 0, 1, 1), RECORD(3, 0, 0, 0), RECORD(4, 0, 1, 2), RECORD(5, 0, 0, 0)};
+static const uint8_t among_cells[] = {0, 1, 0, 2, 0};
+static const uint32_t among_tags[] = {1, 2, 3, 4, 5};
+static const uint8_t among_answer[] = {1, 1, 2, 1, 1, 1, 2, 1, 0, 1, 2, 1, 4}; /* 1 A B 11121 0,1,2,1,4 */
+
 static const uint8_t long_span[][32] = {RECORD(1, 0, 97, 1)};
 static const uint8_t start_alone[][32] = {RECORD(1, 1, 0, 0)};
 static const uint8_t byte_7[][32] = {RECORD(1, 0, 1, 1), {2, 0, 0, 0, 0, 0, 1, 1, 1}};
@@ -79,14 +96,30 @@ static const uint8_t gapped_twice[][32] = {RECORD(1, 0, 1, 1), RECORD(1, 0, 3, 0
 static const uint8_t gapped_last[][32] = {RECORD(1, 0, 1, 1), RECORD(1, 0, 1, 2), RECORD(2, 0, 3, 0x11)}; /* A--, B--, A-A */
 static const uint8_t twice[][32] = {RECORD(1, 0, 1, 1), RECORD(1, 0, 1, 2)};
 
+/* out of order */
+static const uint8_t falling_tags[][32] = {RECORD(2, 0, 1, 1), RECORD(1, 0, 1, 2)};                      /* A, B */
+static const uint8_t falling_tags_later[][32] = {RECORD(2, 1, 1, 1), RECORD(1, 1, 1, 2)};                /* -A, -B */
+static const uint8_t falling_start[][32] = {RECORD(1, 1, 1, 1), RECORD(2, 0, 1, 1)};                     /* -A, A- */
+static const uint8_t falling_numbers[][32] = {{0, 1}, {0xFF}};                                           /* 256 and 255 */
+static const uint8_t falling_high_bits[][32] = {{0, 0, 0, 0x80}, {0xFF, 0xFF, 0xFF, 0x7F}};              /* 2^31 and one less */
+static const uint8_t empty_after_tag[][32] = {RECORD(5, 0, 1, 1), RECORD(3, 0, 0, 0)};                   /* A, - */
+static const uint8_t empty_after_start[][32] = {RECORD(1, 1, 1, 1), RECORD(2, 0, 0, 0)};                 /* -A, -- */
+static const uint8_t after_first[][32] = {RECORD(1, 0, 1, 1), RECORD(2, 2, 1, 1), RECORD(3, 1, 1, 1)};   /* A--, --A, -A- */
+static const uint8_t falling_twice[][32] = {RECORD(3, 0, 1, 1), RECORD(2, 0, 1, 1), RECORD(1, 0, 1, 1)}; /* A, A, A */
+static const uint8_t falling_first[][32] = {RECORD(2, 0, 1, 1), RECORD(1, 0, 1, 1), RECORD(3, 3, 1, 1)}; /* A--, A--; A past three columns */
+static const uint8_t falling_again[][32] = {RECORD(1, 0, 1, 1), RECORD(2, 1, 1, 1), RECORD(1, 0, 1, 1)}; /* A-, -A, A-, with the first tag */
+static const uint8_t falling_byte_7[][32] = {RECORD(1, 1, 1, 1), {2, 0, 0, 0, 0, 0, 1, 1, 1}};           /* -A, A- */
+
 static const uint8_t unknown_cells[] = {1, 1, 0, 2, 3, 1, 0, 2, 2};
+static const uint8_t falling_unknown_cells[] = {0, 0, 1, 3, 1, 0, 0, 1, 1}, falling_before_unknown_cells[] = {0, 1, 0, 1, 0, 0, 3, 0, 0};
 static const uint32_t same_tags[] = {10, 11, 10};
 
 static const uint8_t no_conflicts[128 * 128] = {0}; /* the counts of up to 128 fragments */
 
-/* made at the start: 129 fragments A at column 0, the answer of 128 of them for 1 and for 128 columns; a row of calls at 97 columns; 128 fragments that call
- * columns 32 to 127, As and Bs by turns, and their counts */
-static uint8_t crowd[129][32], crowd_answer[3 + 256], wide_crowd_answer[3 * 128 + 256], long_row[97], turns[128][32], turns_counts[128 * 128];
+/* made at the start: 129 fragments A at column 0, the answer of 128 of them for 1 and for 128 columns; these 128, the last two exchanged; a row of a call
+ * at column 96 and one of calls at 97 columns; 128 fragments that call columns 32 to 127, As and Bs by turns, and their counts */
+static uint8_t crowd[129][32], crowd_answer[3 + 256], wide_crowd_answer[3 * 128 + 256], falling_crowd[128][32], long_rows[2][97];
+static uint8_t turns[128][32], turns_counts[128 * 128];
 
 /* made at the start too: 8 fragments A-A, their answer, and after them -A-; a fragment of A at column 32 and B at column 127, its cells and its answer */
 static uint8_t stretches[9][32], stretches_answer[3 * 3 + 16], far_apart[1][32], far_apart_cells[128], far_apart_answer[3 * 128 + 2];
@@ -131,7 +164,11 @@ static void make_tables(void)
     memset(wide_crowd_answer + 3 * 128, 1, 128);
     for (size_t i = 0; i < 128; i++) /* each a block by itself */
         crowd_answer[3 + 128 + i] = wide_crowd_answer[3 * 128 + 128 + i] = (uint8_t)i;
-    memset(long_row, 2, sizeof long_row);
+    memcpy(falling_crowd, crowd, sizeof falling_crowd);
+    memcpy(falling_crowd[126], crowd[127], 32);
+    memcpy(falling_crowd[127], crowd[126], 32);
+    long_rows[0][96] = 2;
+    memset(long_rows[1], 2, sizeof long_rows[1]);
     for (size_t i = 0; i < COUNT(turns); i++) {
         turns[i][0] = (uint8_t)i;
         turns[i][4] = 32;
@@ -151,6 +188,9 @@ static const struct row rows[] = {
     {"unpack the gapped triangle", UNPACK, 3, 3, {ALL(triangle), NONE}, {ALL(triangle_cells), ALL(printed_tags), NONE}},
     {"unpack mates", UNPACK, 3, 2, {ALL(mates), NONE}, {ALL(mates_cells), ALL(mates_tags), NONE}},
     {"unpack mates over 96 columns", UNPACK, 128, 1, {ALL(far_apart), NONE}, {ALL(far_apart_cells), {mates_tags, 4}, NONE}},
+    {"unpack rising tags", UNPACK, 0, 6, {ALL(rising_tags), NONE}, {NONE, ALL(rising_tags_read), NONE}},
+    {"unpack rising starts", UNPACK, 2, 3, {ALL(rising_start), NONE}, {ALL(rising_start_cells), ALL(rising_start_tags), NONE}},
+    {"unpack no calls among others", UNPACK, 1, 5, {ALL(among), NONE}, {ALL(among_cells), ALL(among_tags), NONE}},
 
     {"pack", PACK, 3, 3, {ALL(printed_cells), ALL(printed_tags)}, {ALL(printed), NONE, NONE}},
     {"pack no fragments", PACK, 0, 0, {NONE, NONE}, {NONE, NONE, NONE}},
@@ -159,16 +199,24 @@ static const struct row rows[] = {
     {"pack 9 cells for 2 columns", PACK, 2, REFUSED(1, 0), {ALL(printed_cells), ALL(printed_tags)}, {LEFT(96), NONE, NONE}},
     {"pack 129 fragments", PACK, 0, REFUSED(2, 0), {NONE, {work, 4 * 129}}, {LEFT(32 * 129), NONE, NONE}},
     {"pack an unknown call", PACK, 3, REFUSED(6, 1), {ALL(unknown_cells), ALL(printed_tags)}, {LEFT(96), NONE, NONE}},
-    {"pack calls over 97 columns", PACK, 97, REFUSED(4, 0), {ALL(long_row), {printed_tags, 4}}, {LEFT(32), NONE, NONE}},
+    {"pack calls over 97 columns", PACK, 97, REFUSED(4, 0), {ALL(long_rows[1]), {printed_tags, 4}}, {LEFT(32), NONE, NONE}},
     {"pack the gapped triangle", PACK, 3, 3, {ALL(triangle_cells), ALL(printed_tags)}, {ALL(triangle), NONE, NONE}},
     {"pack mates", PACK, 3, 2, {ALL(mates_cells), ALL(mates_tags)}, {ALL(mates), NONE, NONE}},
     {"pack mates over 96 columns", PACK, 128, 1, {ALL(far_apart_cells), {mates_tags, 4}}, {ALL(far_apart), NONE, NONE}},
     {"pack a tag twice", PACK, 3, REFUSED(9, 2), {ALL(printed_cells), ALL(same_tags)}, {LEFT(96), NONE, NONE}},
     {"pack a hole and a tag twice", PACK, 3, REFUSED(9, 2), {ALL(triangle_cells), ALL(same_tags)}, {LEFT(96), NONE, NONE}},
+    {"pack rising tags", PACK, 0, 6, {NONE, ALL(rising_tags_read)}, {ALL(rising_tags), NONE, NONE}},
+    {"pack rising starts", PACK, 2, 3, {ALL(rising_start_cells), ALL(rising_start_tags)}, {ALL(rising_start), NONE, NONE}},
+    {"pack no calls among others", PACK, 1, 5, {ALL(among_cells), ALL(among_tags)}, {ALL(among), NONE, NONE}},
+    {"pack an unknown call, out of order", PACK, 3, REFUSED(6, 1), {ALL(falling_unknown_cells), ALL(printed_tags)}, {LEFT(96), NONE, NONE}},
+    {"pack an unknown call after one out of order", PACK, 3, REFUSED(13, 1), {ALL(falling_before_unknown_cells), ALL(printed_tags)}, {LEFT(96), NONE, NONE}},
+    {"pack calls over 97 columns, out of order", PACK, 97, REFUSED(4, 1), {ALL(long_rows), {printed_tags, 8}}, {LEFT(64), NONE, NONE}},
+    {"pack fragments out of order, a wrong table", PACK, 3, REFUSED(11, 0), {ALL(triangle_unordered_cells), ALL(printed_tags)}, {LEFT(95), NONE, NONE}},
 
     {"find the first record", FIND, 10, 0, {ALL(printed), NONE}, {NONE, NONE, NONE}},
     {"find the last record", FIND, 12, 64, {ALL(printed), NONE}, {NONE, NONE, NONE}},
     {"find the first of two", FIND, 1, 0, {ALL(twice), NONE}, {NONE, NONE, NONE}},
+    {"find a tag out of order", FIND, 1, 64, {ALL(falling_twice), NONE}, {NONE, NONE, NONE}},
     {"find a tag of four bytes", FIND, 0xFFFFFFFF, 32, {ALL(wide_tags), NONE}, {NONE, NONE, NONE}},
     {"find an absent tag", FIND, 13, 96, {ALL(printed), NONE}, {NONE, NONE, NONE}},
     {"find a tag before a ragged end", FIND, 11, 32, {{printed, 95}, NONE}, {NONE, NONE, NONE}},
@@ -188,6 +236,10 @@ static const struct row rows[] = {
     {"check mates", CHECK, 3, 0, {ALL(mates), NONE}, {ALL(mates_answer), NONE, NONE}},
     {"check mates, an error on the far one", CHECK, 4, 1, {ALL(far_error), NONE}, {LEFT(18), NONE, NONE}},
     {"check mates over 96 columns", CHECK, 128, 0, {ALL(far_apart), NONE}, {ALL(far_apart_answer), NONE, NONE}},
+    {"check rising tags", CHECK, 0, 0, {ALL(rising_tags), NONE}, {ALL(rising_tags_answer), NONE, NONE}},
+    {"check rising starts", CHECK, 2, 0, {ALL(rising_start), NONE}, {ALL(rising_start_answer), NONE, NONE}},
+    {"check no calls among others", CHECK, 1, 0, {ALL(among), NONE}, {ALL(among_answer), NONE, NONE}},
+    {"check a record out of order, a wrong answer", CHECK, 2, CHECK_REFUSED(11, 0), {ALL(falling_start), NONE}, {LEFT(9), NONE, NONE}},
 
     {"conflict_counts", CONFLICT_COUNTS, 3, 3, {ALL(printed), NONE}, {ALL(printed_counts), NONE, NONE}},
     {"conflict_counts of pair", CONFLICT_COUNTS, 1, 2, {ALL(pair), NONE}, {ALL(pair_counts), NONE, NONE}},
@@ -200,16 +252,21 @@ static const struct row rows[] = {
     {"conflict_counts of 128 fragments, 128 columns", CONFLICT_COUNTS, 128, 128, {ALL(turns), NONE}, {ALL(turns_counts), NONE, NONE}},
     {"conflict_counts of the gapped triangle", CONFLICT_COUNTS, 3, 3, {ALL(triangle), NONE}, {ALL(triangle_counts), NONE, NONE}},
     {"conflict_counts on both mates", CONFLICT_COUNTS, 3, 2, {ALL(mates), NONE}, {ALL(mates_counts), NONE, NONE}},
+    {"conflict_counts of rising tags", CONFLICT_COUNTS, 0, 6, {ALL(rising_tags), NONE}, {{no_conflicts, 36}, NONE, NONE}},
 
     {"S", SNPS, 3, 1, {ALL(printed), NONE}, {ALL(work), ALL(printed_s), NONE}},
     {"S with more work", SNPS, 3, 1, {ALL(printed), NONE}, {ALL(more_work), ALL(printed_s), NONE}},
     {"S of no records", SNPS, 0, 0, {NONE, NONE}, {ALL(work), NONE, NONE}},
     {"S of 128 fragments, 128 columns", SNPS, 128, 0, {{crowd, 32 * 128}, NONE}, {ALL(work), ALL(wide_crowd_answer), NONE}},
+    {"S of rising starts", SNPS, 2, 0, {ALL(rising_start), NONE}, {ALL(work), ALL(rising_start_answer), NONE}},
+    {"S of no calls among others", SNPS, 1, 0, {ALL(among), NONE}, {ALL(work), ALL(among_answer), NONE}},
 
     {"F", FRAGMENTS, 3, 1, {ALL(printed), NONE}, {ALL(work), ALL(printed_f), NONE}},
     {"F with more work", FRAGMENTS, 3, 1, {ALL(printed), NONE}, {ALL(more_work), ALL(printed_f), NONE}},
     {"F of no records", FRAGMENTS, 0, 0, {NONE, NONE}, {ALL(work), NONE, NONE}},
     {"F of 128 fragments, 128 columns", FRAGMENTS, 128, 0, {{crowd, 32 * 128}, NONE}, {ALL(work), ALL(wide_crowd_answer), NONE}},
+    {"F of rising starts", FRAGMENTS, 2, 0, {ALL(rising_start), NONE}, {ALL(work), ALL(rising_start_answer), NONE}},
+    {"F of no calls among others", FRAGMENTS, 1, 0, {ALL(among), NONE}, {ALL(work), ALL(among_answer), NONE}},
 
     {"C", CORRECTIONS, 3, 1, {ALL(printed), NONE}, {ALL(work), ALL(printed_c), ALL(corrected)}},
     {"C with more work", CORRECTIONS, 3, 1, {ALL(printed), NONE}, {ALL(more_work), ALL(printed_c), ALL(corrected)}},
@@ -222,9 +279,12 @@ static const struct row rows[] = {
     {"C of mates", CORRECTIONS, 3, 0, {ALL(mates), NONE}, {ALL(work), ALL(mates_answer), ALL(mates)}},
     {"C of mates, an error on the far one", CORRECTIONS, 4, 1, {ALL(far_error), NONE}, {ALL(work), ALL(far_error_c), ALL(far_error_corrected)}},
     {"C of mates over 96 columns", CORRECTIONS, 128, 0, {ALL(far_apart), NONE}, {ALL(work), ALL(far_apart_answer), ALL(far_apart)}},
+    {"C of rising starts", CORRECTIONS, 2, 0, {ALL(rising_start), NONE}, {ALL(work), ALL(rising_start_answer), ALL(rising_start)}},
+    {"C of no calls among others", CORRECTIONS, 1, 0, {ALL(among), NONE}, {ALL(work), ALL(among_answer), ALL(among)}},
 };
 
-/* Tables that are refused, and by whom: every service but pack and find, S and F alone, which take no holes, or the others alone. */
+/* Tables that are refused, and by whom: every service but pack and find, S and F alone, which take no holes, or the others alone; and whether pack
+ * refuses their fragments so too. */
 enum refusing { EVERY, GAPLESS, OTHERS };
 
 static const struct {
@@ -233,26 +293,42 @@ static const struct {
     struct given table;
     uint32_t number, place;
     enum refusing by;
+    int and_pack;
 } refused[] = {
-    {"129 columns", 129, ALL(pair), 3, 0, EVERY},
-    {"129 columns before ragged", 129, {printed, 33}, 3, 0, EVERY},
-    {"ragged", 3, {printed, 33}, 1, 0, EVERY},
-    {"129 fragments", 1, ALL(crowd), 2, 0, EVERY},
-    {"no columns for its calls", 0, ALL(pair), 4, 0, EVERY},
-    {"a span of 97", 128, ALL(long_span), 4, 0, EVERY},
-    {"a start without calls", 3, ALL(start_alone), 4, 0, EVERY},
-    {"byte 7", 1, ALL(byte_7), 5, 1, EVERY},
-    {"a cell after the span", 2, ALL(stray_cell), 5, 0, EVERY},
-    {"an unknown call", 1, ALL(unknown), 6, 0, EVERY},
-    {"an open end", 2, ALL(open_end), 7, 0, EVERY},
-    {"a hole and an open end", 4, ALL(open_gapped), 7, 0, EVERY},
-    {"the gapped triangle", 3, ALL(triangle), 8, 2, GAPLESS},
-    {"a hole and a tag twice", 3, ALL(gapped_twice), 8, 1, GAPLESS},
-    {"a hole and a tag twice", 3, ALL(gapped_twice), 9, 1, OTHERS},
-    {"a hole before a record out of frame", 3, ALL(gapped_first), 8, 0, GAPLESS},
-    {"a hole before a record out of frame", 3, ALL(gapped_first), 4, 1, OTHERS},
-    {"a tag twice", 1, ALL(twice), 9, 1, EVERY},
-    {"a tag twice before a hole", 3, ALL(gapped_last), 9, 1, EVERY},
+    {"129 columns", 129, ALL(pair), 3, 0, EVERY, 0},
+    {"129 columns before ragged", 129, {printed, 33}, 3, 0, EVERY, 0},
+    {"ragged", 3, {printed, 33}, 1, 0, EVERY, 0},
+    {"129 fragments", 1, ALL(crowd), 2, 0, EVERY, 0},
+    {"no columns for its calls", 0, ALL(pair), 4, 0, EVERY, 0},
+    {"a span of 97", 128, ALL(long_span), 4, 0, EVERY, 0},
+    {"a start without calls", 3, ALL(start_alone), 4, 0, EVERY, 0},
+    {"byte 7", 1, ALL(byte_7), 5, 1, EVERY, 0},
+    {"a cell after the span", 2, ALL(stray_cell), 5, 0, EVERY, 0},
+    {"an unknown call", 1, ALL(unknown), 6, 0, EVERY, 1},
+    {"an open end", 2, ALL(open_end), 7, 0, EVERY, 0},
+    {"a hole and an open end", 4, ALL(open_gapped), 7, 0, EVERY, 0},
+    {"the gapped triangle", 3, ALL(triangle), 8, 1, GAPLESS, 0},
+    {"a hole and a tag twice", 3, ALL(gapped_twice), 8, 1, GAPLESS, 0},
+    {"a hole and a tag twice", 3, ALL(gapped_twice), 9, 1, OTHERS, 1},
+    {"a hole before a record out of frame", 3, ALL(gapped_first), 8, 0, GAPLESS, 0},
+    {"a hole before a record out of frame", 3, ALL(gapped_first), 4, 1, OTHERS, 0},
+    {"a tag twice", 1, ALL(twice), 9, 1, EVERY, 1},
+    {"a tag twice before a hole", 3, ALL(gapped_last), 9, 1, EVERY, 1},
+    {"falling tags at one start", 1, ALL(falling_tags), 13, 1, EVERY, 1},
+    {"falling tags at start 1", 2, ALL(falling_tags_later), 13, 1, EVERY, 1},
+    {"a falling start", 2, ALL(falling_start), 13, 1, EVERY, 1},
+    {"falling tags whose low bytes rise", 0, ALL(falling_numbers), 13, 1, EVERY, 1},
+    {"falling tags by the high bit", 0, ALL(falling_high_bits), 13, 1, EVERY, 1},
+    {"no calls and a lower tag at start 0", 1, ALL(empty_after_tag), 13, 1, EVERY, 1},
+    {"no calls after a start of 1", 2, ALL(empty_after_start), 13, 1, EVERY, 1},
+    {"a record before the second, but not the first", 3, ALL(after_first), 13, 2, EVERY, 1},
+    {"two records out of order", 1, ALL(falling_twice), 13, 1, EVERY, 1},
+    {"a record out of order before one out of frame", 3, ALL(falling_first), 13, 1, EVERY, 0},
+    {"a tag twice, out of order", 2, ALL(falling_again), 9, 2, EVERY, 1},
+    {"byte 7, out of order", 2, ALL(falling_byte_7), 5, 1, EVERY, 0},
+    {"the gapped triangle, out of order", 3, ALL(triangle_unordered), 8, 2, GAPLESS, 0},
+    {"the gapped triangle, out of order", 3, ALL(triangle_unordered), 13, 2, OTHERS, 1},
+    {"128 calls in a column, the last out of order", 1, ALL(falling_crowd), 13, 127, EVERY, 1},
 };
 
 /* ---- a case */
@@ -346,6 +422,31 @@ static void test_refusal(size_t i, enum service service)
     test_row(&row);
 }
 
+/* The same fragments as pack is given them. */
+static void test_pack_refusal(size_t i)
+{
+    char name[80];
+    enum { COLUMNS = 4 };
+    uint8_t cells[HAPLOTYPES_MOST_FRAGMENTS * COLUMNS] = {0};
+    uint32_t tags[HAPLOTYPES_MOST_FRAGMENTS];
+    const uint8_t *record = (const uint8_t *)refused[i].table.bytes;
+    const size_t n = refused[i].n, m = refused[i].table.length / HAPLOTYPES_RECORD;
+    if (n > COLUMNS || m > HAPLOTYPES_MOST_FRAGMENTS) {
+        fprintf(stderr, "host: %s: no room for the fragments\n", refused[i].name);
+        exit(1);
+    }
+    for (size_t k = 0; k < m; k++, record += HAPLOTYPES_RECORD) {
+        tags[k] = (uint32_t)record[0] | (uint32_t)record[1] << 8 | (uint32_t)record[2] << 16 | (uint32_t)record[3] << 24;
+        for (size_t c = 0; c < record[6]; c++)
+            cells[n * k + record[4] + c] = record[8 + c / 4] >> 2 * (c % 4) & 3;
+    }
+    const struct row row = {
+        name, PACK, n, REFUSED(refused[i].number, refused[i].place), {{cells, m * n}, {tags, 4 * m}}, {LEFT(HAPLOTYPES_RECORD * m), NONE, NONE},
+    };
+    snprintf(name, sizeof name, "pack refuses %s", refused[i].name);
+    test_row(&row);
+}
+
 static void test_refused(size_t i)
 {
     static const enum service gapless[] = {SNPS, FRAGMENTS}, others[] = {UNPACK, CHECK, CONFLICT_COUNTS, CORRECTIONS};
@@ -353,6 +454,8 @@ static void test_refused(size_t i)
         test_refusal(i, gapless[s]);
     for (size_t s = 0; refused[i].by != GAPLESS && s < COUNT(others); s++)
         test_refusal(i, others[s]);
+    if (refused[i].and_pack)
+        test_pack_refusal(i);
 }
 
 /* A row whose k-th output is an element shorter or longer: refused, but for longer work, which has rows of its own. */
@@ -397,6 +500,7 @@ static const struct {
     {"refused 1 at 0", UINT64_C(4294967296), 0, HAPLOTYPES_RAGGED, 0},
     {"refused 8 at 2", UINT64_C(34359738370), 0, HAPLOTYPES_GAPPED, 2},
     {"refused 12 at 127", UINT64_C(51539607679), 0, HAPLOTYPES_TOO_DEEP, 127},
+    {"refused 13 at 127", UINT64_C(55834574975), 0, HAPLOTYPES_OUT_OF_ORDER, 127},
 };
 
 static const struct {
@@ -410,6 +514,7 @@ static const struct {
     {"check refused 1 at 0", 1000, 0, 0, HAPLOTYPES_RAGGED, 0},
     {"check refused 9 at 127", 9127, 0, 0, HAPLOTYPES_TAG_TWICE, 127},
     {"check refused 11 at 0", 11000, 0, 0, HAPLOTYPES_WRONG_BUFFER, 0},
+    {"check refused 13 at 2", 13002, 0, 0, HAPLOTYPES_OUT_OF_ORDER, 2},
 };
 
 static void test_readers(void)

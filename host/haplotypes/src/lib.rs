@@ -6,7 +6,8 @@
 //!
 //! A table is 32 bytes to a fragment: tag (4 bytes, little-endian), start (2), span (1), a byte that is 0, and 96 cells of two bits, four to a
 //! byte from the low bits on: 0 a hole, 1 A, 2 B. It has m fragments and n columns, each at most 128. Two mates are one fragment, with holes
-//! between them, which all services but [`least_snp_removal`] and [`least_fragment_removal`] take.
+//! between them, which all services but [`least_snp_removal`] and [`least_fragment_removal`] take. Fragments rise by start, the first called
+//! column, and at one start by tag; without calls the start is 0.
 //!
 //! An answer is 3n + 2m bytes ([`answer_length`]): n keep marks, haplotypes 1 and 2 of n codes each (3 at a removed column), m sides (0 for a removed fragment),
 //! m blocks (the position of the block's first fragment, 255 for a removed one). A chain of kept fragments, each in conflict with the next on a kept
@@ -76,7 +77,7 @@ pub fn unpack(n: usize, table: &[u8], cells: &mut [u8], tags: &mut [u32]) -> Out
     })
 }
 
-/// The table of m × n cells and m tags: the reverse of [`unpack`]. Accepted with m.
+/// The table of m × n cells and m tags: the reverse of [`unpack`]. Accepted with m. The fragments are given in the order of the records.
 ///
 /// ```
 /// use haplotypes::{pack, Outcome};
@@ -86,6 +87,10 @@ pub fn unpack(n: usize, table: &[u8], cells: &mut [u8], tags: &mut [u32]) -> Out
 /// assert_eq!(table, [9; 32]);
 /// assert_eq!(pack(4, &[0, 1, 0, 2], &[7], &mut table), Outcome::Accepted(1)); // mates, and a hole between them
 /// assert_eq!(table[..9], [7, 0, 0, 0, 1, 0, 3, 0, 0b10_00_01]);
+///
+/// let mut table = [9; 64];
+/// assert_eq!(pack(2, &[1, 0, 0, 1], &[8, 7], &mut table), Outcome::Accepted(2)); // A-, -A: the start rises
+/// assert_eq!(pack(2, &[1, 0, 1, 0], &[8, 7], &mut table), Outcome::Refused(13, 1)); // A-, A-: the tag falls
 /// ```
 pub fn pack(n: usize, cells: &[u8], tags: &[u32], table: &mut [u8]) -> Outcome {
     read(COUNT, unsafe {
@@ -93,7 +98,8 @@ pub fn pack(n: usize, cells: &[u8], tags: &[u32], table: &mut [u8]) -> Outcome {
     })
 }
 
-/// The first whole record with the tag, as those very bytes of the table; the empty part at its end where none has it. Refuses nothing.
+/// The first whole record with the tag, as those very bytes of the table; the empty part at its end where none has it. Refuses nothing, and takes
+/// records in any order.
 ///
 /// ```
 /// use haplotypes::{find, pack};
@@ -122,7 +128,7 @@ pub fn find(tag: u32, table: &[u8]) -> &[u8] {
 /// assert_eq!(answer, [1, 1, 2, 1, 2, 0, 0]); // kept; A; B; sides 1 and 2; one block
 ///
 /// let mut mates = [0; 96];
-/// pack(3, &[1, 2, 0, 0, 1, 2, 2, 0, 1], &[10, 11, 12], &mut mates); // AB-, -AB, B-A: each two conflict
+/// pack(3, &[1, 2, 0, 2, 0, 1, 0, 1, 2], &[10, 11, 12], &mut mates); // AB-, B-A, -AB: each two conflict
 /// let mut answer = [0; answer_length(3, 3)];
 /// assert_eq!(check(3, &mates, &mut answer), Outcome::Accepted(1));
 /// ```
@@ -165,9 +171,9 @@ pub fn conflict_counts(n: usize, table: &[u8], counts: &mut [u8]) -> Outcome {
 ///
 /// assert_eq!(least_snp_removal(2, &table, &mut work[1..], &mut answer), Outcome::Refused(10, 0)); // work too short
 ///
-/// pack(3, &[1, 2, 0, 0, 1, 2, 2, 0, 1], &[10, 11, 12], &mut table); // AB-, -AB, B-A
+/// pack(3, &[1, 2, 0, 2, 0, 1, 0, 1, 2], &[10, 11, 12], &mut table); // AB-, B-A, -AB
 /// let mut answer = [0; answer_length(3, 3)];
-/// assert_eq!(least_snp_removal(3, &table, &mut work, &mut answer), Outcome::Refused(8, 2)); // the third has a hole
+/// assert_eq!(least_snp_removal(3, &table, &mut work, &mut answer), Outcome::Refused(8, 1)); // the second has a hole
 /// ```
 pub fn least_snp_removal(n: usize, table: &[u8], work: &mut [u16], answer: &mut [u8]) -> Outcome {
     read(COUNT, unsafe {
@@ -226,10 +232,10 @@ pub fn least_fragment_removal(n: usize, table: &[u8], work: &mut [u16], answer: 
 /// unpack(3, &corrected, &mut cells, &mut tags);
 /// assert_eq!(cells, [1, 1, 0, 1, 1, 1, 0, 2, 2]); // BAA becomes AAA
 ///
-/// pack(3, &[1, 2, 0, 0, 1, 2, 2, 0, 1], &[10, 11, 12], &mut table); // AB-, -AB, B-A: mates are corrected too
+/// pack(3, &[1, 2, 0, 2, 0, 1, 0, 1, 2], &[10, 11, 12], &mut table); // AB-, B-A, -AB: mates are corrected too
 /// let outcome = least_corrections(3, &table, &mut work, &mut answer, &mut corrected);
 /// assert_eq!(outcome, Outcome::Accepted(1));
-/// assert_eq!(answer, [1, 1, 1, 1, 1, 2, 2, 0, 1, 1, 1, 2, 0, 0, 0]); // kept; AAB; B-A; sides; blocks
+/// assert_eq!(answer, [1, 1, 1, 1, 2, 1, 0, 1, 2, 1, 1, 2, 0, 0, 0]); // kept; ABA; -AB; sides; blocks
 /// ```
 pub fn least_corrections(n: usize, table: &[u8], work: &mut [u16], answer: &mut [u8], corrected: &mut [u8]) -> Outcome {
     read(COUNT, unsafe {

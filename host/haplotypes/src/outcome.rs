@@ -17,6 +17,7 @@ use std::fmt;
 /// | 10 | work under [`WORK`](crate::WORK) numbers | 0 |
 /// | 11 | the length of an output is not exact | 0 |
 /// | 12 | C alone: over 8 fragments whose stretch from first to last call covers a column | the column |
+/// | 13 | out of order: a start below that of the fragment before, or the same start and a lower tag | the fragment |
 #[derive(Clone, Copy, PartialEq, Eq, Debug)]
 pub enum Outcome {
     Accepted(usize),
@@ -54,9 +55,11 @@ mod tests {
         assert_eq!(check(1), Outcome::Accepted(1));
         assert_eq!(check(1000), Outcome::Refused(1, 0));
         assert_eq!(check(9127), Outcome::Refused(9, 127));
+        assert_eq!(check(13002), Outcome::Refused(13, 2));
         let count = |number| read(1 << 32, number);
         assert_eq!(count(16384), Outcome::Accepted(16384));
         assert_eq!(count(1 << 32), Outcome::Refused(1, 0));
         assert_eq!(count((12 << 32) + 127), Outcome::Refused(12, 127));
+        assert_eq!(count((13 << 32) + 1), Outcome::Refused(13, 1));
     }
 }

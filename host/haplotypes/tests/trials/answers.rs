@@ -1,4 +1,4 @@
-//! Small tables with the whole answer of every service, also in other orders of the records.
+//! Small tables with the whole answer of every service, also with the records of one start in other orders.
 
 use crate::calls::Trials;
 use crate::expected::{Each, Expected};
@@ -8,7 +8,7 @@ use crate::fixtures::Fixture;
 /// C.
 type ErrorFree = (&'static str, &'static [&'static str], &'static str, &'static str);
 
-const ERROR_FREE: [ErrorFree; 17] = [
+const ERROR_FREE: [ErrorFree; 18] = [
     ("paper: no records, no columns", &[], ".", ". . . . ."),
     ("paper: A and B on one column", &["A", "B"], "01 10", "1 A B 12 0,0"),
     ("paper, with T-04: AA and AA", &["AA", "AA"], "00 00", "11 AA -- 11 0,1"),
@@ -38,13 +38,19 @@ const ERROR_FREE: [ErrorFree; 17] = [
         "0200 2000 0002 0020",
         "1111 AABB BBAA 1212 0,0,2,2",
     ),
-    ("two blocks, by turns", &["--B", "BB-", "--A", "AB-"], "0010 0001 1000 0100", "111 BBB ABA 1122 0,1,0,1"),
+    ("a block around a fragment that only agrees", &["AAA", "-A-", "-AB"], "001 000 100", "111 AAA -AB 112 0,1,0"),
     ("a chain", &["AB--", "-AB-", "--AB"], "010 101 010", "1111 ABAB -AB- 121 0,0,0"),
     (
         "a chain that the last fragment joins, and a fragment that agrees with it",
-        &["A---", "---A", "-B--", "AABB"],
+        &["AAA-", "-AAA", "--AA", "--AB"],
         "0000 0001 0001 0110",
-        "1111 AB-A AABB 1112 0,1,1,1",
+        "1111 AAAA --AB 1112 0,1,1,1",
+    ),
+    (
+        "a chain through a long fragment, and a fragment that agrees with it",
+        &["A---", "AABB", "-B--", "---A"],
+        "0000 0011 0100 0100",
+        "1111 AABB -B-A 1122 0,1,1,1",
     ),
 ];
 
@@ -68,7 +74,7 @@ struct Errors {
     corrected: &'static [&'static str],
 }
 
-const ERRORS: [Errors; 15] = [
+const ERRORS: [Errors; 16] = [
     Errors {
         name: "paper: printed",
         fragments: &["AA-", "BAA", "-BB"],
@@ -107,22 +113,32 @@ const ERRORS: [Errors; 15] = [
         corrected: &["BB", "BB", "BB", "AA"],
     },
     Errors {
-        name: "printed, -BB first",
-        fragments: &["-BB", "AA-", "BAA"],
+        name: "printed, BAA first",
+        fragments: &["BAA", "AA-", "-BB"],
         conflict_counts: "012 101 210",
-        s: "1 101 A#B B#A 112 0,0,0",
-        f: "1 111 -BB AA- 120 0,0,-",
-        c: "1 111 AAB BAA 112 0,0,0",
-        corrected: &["-AB", "AA-", "BAA"],
+        s: "1 101 B#A A#B 122 0,0,0",
+        f: "1 111 BAA AA- 120 0,0,-",
+        c: "1 111 AAA -BB 112 0,0,0",
+        corrected: &["AAA", "AA-", "-BB"],
+    },
+    // Column 0 cannot go alone now: all three still conflict.
+    Errors {
+        name: "printed, the columns turned round",
+        fragments: &["BB-", "AAB", "-AA"],
+        conflict_counts: "021 201 110",
+        s: "1 110 BB# AA# 122 0,0,0",
+        f: "1 111 BB- AAB 120 0,0,-",
+        c: "1 111 BAA AAB 121 0,0,0",
+        corrected: &["BA-", "AAB", "-AA"],
     },
     Errors {
-        name: "printed, BAA first",
-        fragments: &["BAA", "-BB", "AA-"],
+        name: "printed, the columns turned round, AAB first",
+        fragments: &["AAB", "BB-", "-AA"],
         conflict_counts: "021 201 110",
-        s: "1 101 B#A A#B 122 0,0,0",
-        f: "1 111 BAA -BB 120 0,0,-",
-        c: "1 111 AAA -BB 121 0,0,0",
-        corrected: &["AAA", "-BB", "AA-"],
+        s: "1 110 AA# BB# 121 0,0,0",
+        f: "1 111 AAB BB- 120 0,0,-",
+        c: "1 111 AAA BB- 121 0,0,0",
+        corrected: &["AAA", "BB-", "-AA"],
     },
     Errors {
         name: "AA, BA, AB: one B among As in column 1",
@@ -161,16 +177,16 @@ const ERRORS: [Errors; 15] = [
         c: "1 11 AA BA 1121 0,0,0,3",
         corrected: &["AA", "AA", "BA", "--"],
     },
-    // The conflicts are 0-1 and 1-3 on column 1, 0-2 and 0-3 on column 2. Without column 2, fragment 2 has no call.
+    // The conflicts are 0-1 and 1-2 on column 1, 0-2 and 0-3 on column 2. Without column 2, fragment 3 has no call.
     // C's earlier side lists, 1111, 1112 and 1121, cost 2. Once its only call is corrected, fragment 1 conflicts with none.
     Errors {
         name: "short fragments inside a long one",
-        fragments: &["AAAA", "-B--", "--B-", "-AB-"],
-        conflict_counts: "0111 1001 1000 1100",
-        s: "1 1101 AA#A -B#- 1211 0,0,2,0",
-        f: "1 1111 AAAA -BB- 1220 0,0,0,-",
+        fragments: &["AAAA", "-B--", "-AB-", "--B-"],
+        conflict_counts: "0111 1010 1100 1000",
+        s: "1 1101 AA#A -B#- 1211 0,0,0,3",
+        f: "1 1111 AAAA -BB- 1202 0,0,-,0",
         c: "1 1111 AAAA -AB- 1122 0,1,0,0",
-        corrected: &["AAAA", "-A--", "--B-", "-AB-"],
+        corrected: &["AAAA", "-A--", "-AB-", "--B-"],
     },
     // The only conflict of fragment 3 is with fragment 1 on column 1: S removes the column, C corrects fragment 1 there,
     // and F keeps both. C's earlier side lists, 1111 and 1112, cost 2.

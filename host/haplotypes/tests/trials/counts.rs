@@ -53,11 +53,11 @@ fn columns_after_the_last_call() {
 #[test]
 fn each_column_by_itself() {
     let mut trials = Trials::default();
-    for c in 0..128 {
-        let next = (c + 1) % 128;
-        let fragments = [lone('A', c, 128), lone('B', next, 128), lone('B', c, 128), lone('A', c, 128)];
-        let expected = Expected::counted("0010 0000 1001 0010");
-        trials.run(&format!("column {c}"), ConflictCounts, &Fixture::of(&fragments), &expected);
+    for c in 0..127 {
+        let fragments = [('A', c), ('B', c), ('A', c), ('B', c + 1), ('A', c + 1)];
+        let given = Fixture::of(&fragments.map(|(letter, column)| lone(letter, column, 128)));
+        let expected = Expected::counted("01000 10100 01000 00001 00010");
+        trials.run(&format!("columns {c} and {}", c + 1), ConflictCounts, &given, &expected);
     }
 }
 

@@ -3,7 +3,7 @@
 
 use crate::calls::{Service, Trials};
 use crate::expected::{Each, Expected};
-use crate::fixtures::{is_gapped, lone, mates, Fixture};
+use crate::fixtures::{by_start, is_gapped, lone, mates, Fixture};
 
 /// A name, and how many fragments have which letters: As alone, so all are on side 1.
 type Depths = (&'static str, &'static [(usize, &'static str)]);
@@ -12,18 +12,9 @@ fn fragments(groups: &[(usize, &str)]) -> Vec<String> {
     groups.iter().flat_map(|&(count, letters)| vec![letters.to_owned(); count]).collect()
 }
 
-/// The answer of As alone: no two fragments conflict, so each is a block by itself.
-fn fields(fragments: &[String]) -> String {
-    let (m, n) = (fragments.len(), fragments[0].len());
-    let called = |c: usize| fragments.iter().any(|letters| letters.as_bytes()[c] == b'A');
-    let haplotype: String = (0..n).map(|c| if called(c) { 'A' } else { '-' }).collect();
-    let blocks: Vec<String> = (0..m).map(|i| i.to_string()).collect();
-    format!("{} {haplotype} {} {} {}", "1".repeat(n), "-".repeat(n), "1".repeat(m), blocks.join(","))
-}
-
 /// What all services make of As alone; S and F refuse the first fragment with a hole between two calls.
 fn each(given: &Fixture, fragments: &[String]) -> Each {
-    let each = Each::of_conflict_free(given, &fields(fragments));
+    let each = Each::of_as_alone(given);
     match fragments.iter().position(|letters| is_gapped(letters)) {
         Some(place) => each.gapped(place),
         None => each,
@@ -68,7 +59,7 @@ const DEEP: [(Depths, usize); 14] = [
     (("9 stretches over a column that one calls", &[(8, "A-A"), (1, "-A-")]), 1),
     (("9 stretches over a column that 8 call", &[(1, "A-A"), (7, "AAA"), (1, "-AA")]), 1),
     (("9 stretches, before a column of 9 calls", &[(8, "A--A"), (1, "-AAA")]), 1),
-    (("two columns in a hole", &[(8, "A----A"), (1, "---A--"), (1, "--A---")]), 2),
+    (("two columns in a hole", &[(8, "A----A"), (1, "--A---"), (1, "---A--")]), 2),
     (("mates that start one after another", &[(4, "A---A--"), (4, "-A---A-"), (1, "--A---A")]), 2),
     (("9 stretches where 8 others have ended", &[(8, "A-A---"), (9, "---A-A")]), 3),
     (("9 stretches where none of 8 has ended", &[(8, "A-A--"), (1, "--A-A")]), 2),
@@ -101,6 +92,7 @@ fn a_call_under_8_stretches_of_96_columns() {
         for column in [0, 15, 16, 31, 32, 33, 63, 64, 95, 96, 111, 112, 127] {
             let mut fragments = vec![mates([('A', start), ('A', start + 95)], 128); 8];
             fragments.push(lone('A', column, 128));
+            let fragments = by_start(fragments);
             let given = Fixture::of(&fragments);
             let each = each(&given, &fragments);
             let covered = (start..start + 96).contains(&column);
@@ -116,10 +108,12 @@ fn records_come_before_depths() {
     let mut trials = Trials::default();
     let deep = fragments(&[(8, "AAA"), (1, "-AA"), (1, "--A")]);
     let last = fragments(&[(9, "A----"), (1, "--A-A")]);
+    let level = fragments(&[(9, "AAA"), (1, "A--")]);
     let rows = [
         ("the first record is out of frame", Fixture::of(&deep).in_columns(2), Expected::refused(4, 0)),
         ("the last record has stray bits", Fixture::of(&deep).edited(9, &[(7, 1)]), Expected::refused(5, 9)),
         ("the last record has the first one's tag", Fixture::of(&last).edited(9, &[(0, 10)]), Expected::refused(9, 9)),
+        ("the last record is out of order", Fixture::of(&level).edited(9, &[(0, 9)]), Expected::refused(13, 9)),
         ("the last record has a hole", Fixture::of(&last), Expected::refused(12, 0)),
         ("no record is refused", Fixture::of(&deep), Expected::refused(12, 1)),
     ];

@@ -76,6 +76,16 @@ impl Each {
         Each::of_error_free(given, Expected::counted_by(given.m(), |_, _| 0), fields)
     }
 
+    /// The same of As alone: all are on side 1, and each is a block by itself.
+    pub fn of_as_alone(given: &Fixture) -> Each {
+        let (m, n) = (given.m(), given.n);
+        let called = |c: usize| (0..m).any(|i| given.cells[n * i + c] != 0);
+        let haplotype: String = (0..n).map(|c| if called(c) { 'A' } else { '-' }).collect();
+        let blocks: Vec<String> = (0..m).map(|i| i.to_string()).collect();
+        let [keep, sides] = [n, m].map(|count| "1".repeat(count));
+        Each::of_conflict_free(given, &format!("{keep} {haplotype} {} {sides} {}", "-".repeat(n), blocks.join(",")))
+    }
+
     /// There is nothing to change in an error-free table, so the answers of check, S, F and C are one.
     pub fn of_error_free(given: &Fixture, conflict_counts: Expected, fields: &str) -> Each {
         let listed = Expected::listed(&format!("0 {fields}"));

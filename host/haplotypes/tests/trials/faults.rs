@@ -1,16 +1,19 @@
 //! The rules of a record, 4 to 9: each of them alone, at the first record and at later ones. Rule 8 is of S and F alone.
+//! `out_of_order` tries rule 13.
 
+use crate::calls::Service::{F, S};
 use crate::calls::{Trials, OF_TABLES, SERVICES};
 use crate::expected::{Each, Expected};
-use crate::fixtures::{lone, mates, padded, Fixture};
+use crate::fixtures::{lone, mates, padded, start, Fixture};
 
 /// A record that is refused in n columns: its letters, the bytes of it that are then changed, and the rule's number.
 pub type Fault<'a> = (&'a str, usize, &'a str, &'a [(usize, u8)], u8);
 
-/// Three records, of which the one at a place has the fault, and the others call A on column 0.
+/// Three records of one start before the edits, so that they are in order. The one at a place has the fault, and the
+/// others call A on their first column alone.
 pub fn with_fault(fault: Fault, place: usize) -> Fixture {
     let (_, n, letters, edits, _) = fault;
-    let mut fragments = vec![lone('A', 0, n); 3];
+    let mut fragments = vec![lone('A', start(letters), n); 3];
     fragments[place] = padded(letters, n);
     Fixture::of(&fragments).edited(place, edits)
 }
@@ -99,7 +102,7 @@ fn open_ends() {
     ]);
 }
 
-/// The records beside the gapped one call A on column 0, and this one calls no B there: no two conflict, and those that
+/// The records beside the gapped one call A on its first column, and so does this one: no two conflict, and those that
 /// take it have its letters in haplotype 1.
 #[test]
 fn gaps() {
@@ -116,7 +119,7 @@ fn gaps() {
         ("cell 94 of 96 a hole", 128, &late),
     ];
     for (name, n, letters) in rows {
-        let fields = format!("{} A{} {} 111 0,1,2", "1".repeat(n), &padded(letters, n)[1..], "-".repeat(n));
+        let fields = format!("{} {} {} 111 0,1,2", "1".repeat(n), padded(letters, n), "-".repeat(n));
         for place in 0..3 {
             let given = with_fault((name, n, letters, &[], 8), place);
             let expected = Each::of_conflict_free(&given, &fields).gapped(place);
@@ -158,6 +161,10 @@ fn tags_twice() {
             trials.run(name, service, &Fixture::tagged(&["A", "-", "B"], &tags), &Expected::refused(9, place));
         }
     }
+    let rising = Fixture::tagged(&["A--", "-A-", "--A"], &[10, 11, 10]);
+    for service in SERVICES {
+        trials.run("that of record 0, at a later start", service, &rising, &Expected::refused(9, 2));
+    }
 }
 
 /// Each pair differs in one byte of the tag.
@@ -169,7 +176,7 @@ fn tags_that_are_almost_equal() {
     trials.run_each("seven tags", &given, &Each::of_conflict_free(&given, "1 A - 1111111 0,1,2,3,4,5,6"));
 }
 
-/// The last of 128 records has the fault, or the tag of the first.
+/// The last of 128 records has the fault, the tag of the first, or a hole.
 #[test]
 fn faults_of_the_last_record() {
     let mut trials = Trials::default();
@@ -183,5 +190,10 @@ fn faults_of_the_last_record() {
     for service in OF_TABLES {
         let stray = whole.clone().edited(127, &[(7, 1)]);
         trials.run("byte 7 of record 127", service, &stray, &Expected::refused(5, 127));
+    }
+    let mut gapped: Vec<String> = (0..127).map(|i| lone('A', i.min(125), 128)).collect();
+    gapped.push(mates([('A', 125), ('A', 127)], 128));
+    for service in [S, F] {
+        trials.run("a hole in record 127", service, &Fixture::of(&gapped), &Expected::refused(8, 127));
     }
 }

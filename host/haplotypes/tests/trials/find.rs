@@ -94,6 +94,22 @@ fn tables_that_no_other_service_takes() {
     trials.find("records of ones", u32::MAX, &[255; 96], Some(0));
 }
 
+/// Rule 13 is none of find's.
+#[test]
+fn records_out_of_order() {
+    let mut trials = Trials::default();
+    let tags = [9, 3, 7, 1];
+    let (falling_tags, falling_starts) =
+        (tagged(&tags), Fixture::tagged(&["---A", "--A-", "-A--", "A---"], &tags).table);
+    for (i, tag) in tags.into_iter().enumerate() {
+        trials.find(&format!("tag {tag}, tags that fall"), tag, &falling_tags, Some(i));
+        trials.find(&format!("tag {tag}, starts that fall"), tag, &falling_starts, Some(i));
+    }
+    for tag in [0, 2, 8, 10] {
+        trials.find(&format!("no tag {tag}, tags that fall"), tag, &falling_tags, None);
+    }
+}
+
 /// The tag's bytes stand elsewhere in records.
 #[test]
 fn tags_that_stand_elsewhere() {

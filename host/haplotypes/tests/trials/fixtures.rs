@@ -67,6 +67,17 @@ pub fn mates([near, far]: [(char, usize); 2], n: usize) -> String {
     (0..n).map(letter).collect()
 }
 
+/// The first called column, 0 without calls.
+pub fn start(letters: &str) -> usize {
+    letters.find(|letter| letter != '-').unwrap_or(0)
+}
+
+/// Fragments as rule 13 has them stand where tags rise: by start, and those of one start as they were.
+pub fn by_start(mut fragments: Vec<String>) -> Vec<String> {
+    fragments.sort_by_key(|letters| start(letters));
+    fragments
+}
+
 /// Is there a hole between two calls?
 pub fn is_gapped(letters: &str) -> bool {
     letters.trim_matches('-').contains('-')
@@ -138,6 +149,13 @@ fn cells_stand_four_to_a_byte_from_the_low_bits() {
     let last = Fixture::of(&[format!("{}{}", "-".repeat(260), "A".repeat(CELLS))]);
     assert_eq!(last.table[4..8], [4, 1, 96, 0]); // 260 is 4 + 256
     assert_eq!(last.table[8..32], [0b01_01_01_01; 24]);
+}
+
+#[test]
+fn fragments_stand_by_start() {
+    assert_eq!(["---", "A-A", "-B-", "--A"].map(start), [0, 0, 1, 2]);
+    let fragments = ["--A", "-B-", "B--", "---", "-A-", "A--"].map(str::to_owned).to_vec();
+    assert_eq!(by_start(fragments), ["B--", "---", "A--", "-B-", "-A-", "--A"]);
 }
 
 #[test]

@@ -121,15 +121,15 @@ fn snps_of_which_125_must_go() {
     trials.run("127 mixed columns", Service::S, &Fixture::of(&fragments), &Expected::listed(&s));
 }
 
-/// 128 fragments of 96 columns, from 0 or 32 on, all A and all B by turns; but fragment 5, of Bs, has an A on column
-/// 60, which every fragment calls. So it conflicts with the Bs on column 60 and with the As elsewhere, and these with
+/// 64 fragments of 96 columns from 0 on and 64 from 32 on, all A and all B by turns; but fragment 5, of Bs, has an A on
+/// column 60, which every fragment calls. So it conflicts with the Bs on column 60 and with the As elsewhere, and these with
 /// each other: one column will do only if it is 60, and one fragment only if it is 5. Fragments of one start share 96
 /// columns, the others 64.
 #[test]
 fn long_fragments_with_one_error() {
     let mut trials = Trials::default();
     let fragment = |i: usize| {
-        let start = i / 2 % 2 * 32;
+        let start = i / 64 * 32;
         let letter = |c| if i % 2 == 1 && (i, c) != (5, 60) { 'B' } else { 'A' };
         (0..128).map(|c| if (start..start + 96).contains(&c) { letter(c) } else { '-' }).collect::<String>()
     };
@@ -142,7 +142,7 @@ fn long_fragments_with_one_error() {
     let left = joined(128, |i| (i != 5).then_some(0));
     let f = format!("1 {} {} {} {sides} {left}", "1".repeat(128), "A".repeat(128), "B".repeat(128));
     let c = Expected::refused(12, 0);
-    let shared = |i: usize, j: usize| if i / 2 % 2 == j / 2 % 2 { 96 } else { 64 };
+    let shared = |i: usize, j: usize| if i / 64 == j / 64 { 96 } else { 64 };
     let counted = Expected::counted_by(128, |i, j| match (i % 2 == j % 2, (i == 5) == (j == 5)) {
         (true, true) => 0,
         (true, false) => 1,

@@ -13,6 +13,7 @@ mod fixtures;
 mod full;
 mod mates;
 mod order;
+mod out_of_order;
 mod records;
 mod sizes;
 mod spans;

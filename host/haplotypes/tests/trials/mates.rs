@@ -10,7 +10,7 @@ use crate::fixtures::{mates, Fixture};
 /// answer of check and C.
 type ErrorFree = (&'static str, &'static [&'static str], usize, &'static str, &'static str);
 
-const ERROR_FREE: [ErrorFree; 13] = [
+const ERROR_FREE: [ErrorFree; 14] = [
     ("one fragment", &["A-B"], 0, "0", "111 A-B --- 1 0"),
     ("equal mates", &["A-B", "A-B"], 0, "00 00", "111 A-B --- 11 0,1"),
     ("opposite mates", &["A-B", "B-A"], 0, "02 20", "111 A-B B-A 12 0,0"),
@@ -21,21 +21,28 @@ const ERROR_FREE: [ErrorFree; 13] = [
     ("three runs of calls", &["A-B-A", "B---B"], 0, "02 20", "11111 A-B-A B---B 12 0,0"),
     ("a hole in the last fragment alone", &["AAA", "---", "B-A"], 2, "001 000 100", "111 AAA B-A 112 0,1,0"),
     ("columns that no one calls on all sides", &["--A-B-", "--B-A-"], 0, "02 20", "111111 --A-B- --B-A- 12 0,0"),
-    ("mates that agree with two fragments", &["A---", "---B", "A--B"], 2, "000 000 000", "1111 A--B ---- 111 0,1,2"),
-    // Without the mates the first four are two blocks, and their sides 1122.
+    ("mates that agree with two fragments", &["A---", "A--B", "---B"], 1, "000 000 000", "1111 A--B ---- 111 0,1,2"),
+    (
+        "two blocks, by turns",
+        &["A---A", "-B-B-", "--A-B", "---A-"],
+        0,
+        "0010 0001 1000 0100",
+        "11111 AB-BA --AAB 1122 0,1,0,1",
+    ),
+    // Without the mates the other four are two blocks, and their sides 1212.
     (
         "mates that join two blocks",
-        &["AA---", "---AB", "BB---", "---BA", "-B-A-"],
-        4,
-        "00201 00020 20000 02001 10010",
-        "11111 AA-BA BB-AB 12212 0,0,0,0,0",
+        &["AA---", "BB---", "-B-A-", "---AB", "---BA"],
+        2,
+        "02100 20000 10001 00002 00120",
+        "11111 AA-BA BB-AB 12221 0,0,0,0,0",
     ),
     (
         "mates in the holes of mates",
-        &["A--B", "-BA-", "B--A", "-AB-", "A-A-", "-B-B"],
+        &["A--B", "B--A", "A-A-", "-BA-", "-AB-", "-B-B"],
         0,
-        "002000 000200 200011 020011 001100 001100",
-        "1111 ABAB BABA 112211 0,0,0,0,0,0",
+        "020000 201001 010010 000020 001201 010010",
+        "1111 ABAB BABA 121121 0,0,0,0,0,0",
     ),
 ];
 
@@ -63,11 +70,11 @@ struct Errors {
 const ERRORS: [Errors; 8] = [
     Errors {
         name: "papers: the gapped triangle",
-        fragments: &["AB-", "-AB", "B-A"],
-        gapped: 2,
+        fragments: &["AB-", "B-A", "-AB"],
+        gapped: 1,
         conflict_counts: "011 101 110",
-        c: "1 111 AAB B-A 112 0,0,0",
-        corrected: &["AA-", "-AB", "B-A"],
+        c: "1 111 ABA -AB 112 0,0,0",
+        corrected: &["AB-", "A-A", "-AB"],
     },
     Errors {
         name: "the triangle, B-A first",
@@ -149,8 +156,8 @@ fn tables_with_errors() {
 fn two_columns_of_the_triangle() {
     let mut trials = Trials::default();
     let rows = [
-        ("columns 0 and 1", ["AB-", "-A-", "B--"], "0 111 AB- BA- 122 0,0,0"),
-        ("columns 0 and 2", ["A--", "--B", "B-A"], "0 111 A-B B-A 112 0,0,0"),
+        ("columns 0 and 1", ["AB-", "B--", "-A-"], "0 111 AB- BA- 122 0,0,0"),
+        ("columns 0 and 2", ["A--", "B-A", "--B"], "0 111 A-B B-A 121 0,0,0"),
         ("columns 1 and 2", ["-B-", "-AB", "--A"], "0 111 -BA -AB 121 0,0,0"),
     ];
     for (name, fragments, line) in rows {
@@ -169,19 +176,19 @@ fn spread(letters: &str, columns: [usize; 3]) -> String {
 fn triangles_with_wide_holes() {
     let mut trials = Trials::default();
     for at in [[0, 1, 95], [0, 94, 95], [0, 63, 64], [1, 64, 65], [5, 62, 64], [32, 33, 127], [40, 80, 120]] {
-        let given = Fixture::of(&["AB-", "-AB", "B-A"].map(|letters| spread(letters, at)));
-        let line = format!("1 {} {} {} 112 0,0,0", "1".repeat(128), spread("AAB", at), spread("B-A", at));
-        let c = Expected::corrected(&line, &["AA-", "-AB", "B-A"].map(|letters| spread(letters, at)));
+        let given = Fixture::of(&["AB-", "B-A", "-AB"].map(|letters| spread(letters, at)));
+        let line = format!("1 {} {} {} 112 0,0,0", "1".repeat(128), spread("ABA", at), spread("-AB", at));
+        let c = Expected::corrected(&line, &["AB-", "A-A", "-AB"].map(|letters| spread(letters, at)));
         let gapped = usize::from(at[0] + 1 == at[1]);
         let expected = Each::of_gapped_errors(&given, gapped, Expected::counted("011 101 110"), c);
         trials.run_each(&format!("columns {at:?}"), &given, &expected);
     }
 }
 
-/// Fragment i of k has A on column i and B on the next, and the last has its B on column 0: each two neighbours of the
-/// ring conflict on a column, and no others.
+/// Fragment i of k has B on column i and A on the one before, and fragment 0 has its A on the last column: each two
+/// neighbours of the ring conflict on a column, and no others. Fragment 0 alone has a hole.
 fn ring(k: usize) -> Vec<String> {
-    (0..k).map(|i| mates([('A', i), ('B', (i + 1) % k)], k)).collect()
+    (0..k).map(|i| mates([('B', i), ('A', (i + k - 1) % k)], k)).collect()
 }
 
 /// One where the two are neighbours of the ring, else 0.
@@ -195,9 +202,9 @@ fn even_rings() {
     let mut trials = Trials::default();
     for k in [4, 6, 64, 66, 96] {
         let given = Fixture::of(&ring(k));
-        let [one, two, sides] = ["AB", "BA", "12"].map(|turn| turn.repeat(k / 2));
+        let [one, two, sides] = ["BA", "AB", "12"].map(|turn| turn.repeat(k / 2));
         let fields = format!("{} {one} {two} {sides} {}", "1".repeat(k), vec!["0"; k].join(","));
-        let expected = Each::of_error_free(&given, ring_counts(k), &fields).gapped(k - 1);
+        let expected = Each::of_error_free(&given, ring_counts(k), &fields).gapped(0);
         trials.run_each(&format!("{k} fragments"), &given, &expected);
     }
 }
@@ -210,12 +217,11 @@ fn odd_rings() {
     for k in [3, 5, 63, 65, 95] {
         let fragments = ring(k);
         let given = Fixture::of(&fragments);
-        let [one, sides] = ["AB", "12"].map(|turn| turn.repeat(k / 2));
-        let two = "BA".repeat(k / 2 - 1);
-        let line = format!("1 {} A{one} B-A{two} 1{sides} {}", "1".repeat(k), vec!["0"; k].join(","));
-        let corrected = [&[mates([('A', 0), ('A', 1)], k)], &fragments[1..]].concat();
+        let [turns, sides] = ["AB", "12"].map(|turn| turn.repeat(k / 2));
+        let line = format!("1 {} {turns}A -{turns} 1{sides} {}", "1".repeat(k), vec!["0"; k].join(","));
+        let corrected = [&[mates([('A', 0), ('A', k - 1)], k)], &fragments[1..]].concat();
         let c = Expected::corrected(&line, &corrected);
-        let expected = Each::of_gapped_errors(&given, k - 1, ring_counts(k), c);
+        let expected = Each::of_gapped_errors(&given, 0, ring_counts(k), c);
         trials.run_each(&format!("{k} fragments"), &given, &expected);
     }
 }

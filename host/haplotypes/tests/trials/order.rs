@@ -1,5 +1,5 @@
-//! Of several faults, the one that is refused: 3, 1, 2, 10, 11; then records from 0, each by 4 to 7 and 9, for S and F
-//! by 4 to 9; then 12, which `depths` tries. Pack: 3, 1, 2, 11; then fragments from 0, each by 6, 4, 9.
+//! Of several faults, the one that is refused: 3, 1, 2, 10, 11; then records from 0, each by 4 to 7, 9 and 13, for S and F
+//! by 4 to 9 and 13; then 12, which `depths` tries. Pack: 3, 1, 2, 11; then fragments from 0, each by 6, 4, 9, 13.
 
 use crate::calls::{Service, Sizes, Trials, OF_TABLES, SERVICES, WITH_WORK};
 use crate::expected::{Each, Expected};
@@ -10,8 +10,8 @@ use crate::fixtures::{mates, padded, Fixture};
 /// every output has too much, and the number: of a service that borrows work, and of one that does not.
 type Faults = (&'static str, usize, usize, bool, usize, usize, u8, u8);
 
-/// Each row has the faults of the next one too. The fragments have a hole and an unknown call, and are too many for C in
-/// column 0.
+/// Each row has the faults of the next one too. The fragments have a hole and an unknown call, are too many for C in
+/// column 0, and out of order.
 const SIZES: [Faults; 6] = [
     ("129 columns", 129, 129, true, 32_767, 1, 3, 3),
     ("ragged", 3, 129, true, 32_767, 1, 1, 1),
@@ -25,7 +25,8 @@ const SIZES: [Faults; 6] = [
 fn sizes_come_before_records() {
     let mut trials = Trials::default();
     for (name, n, m, ragged, work, more, number, number_without_work) in SIZES {
-        let mut given = Fixture::of(&vec![padded("A-?", n); m]);
+        let tags: Vec<u32> = (0..m as u32).rev().collect();
+        let mut given = Fixture::tagged(&vec![padded("A-?", n); m], &tags);
         given.table.extend(ragged.then_some(0));
         given.cells.extend(ragged.then_some(0));
         let exact = Sizes::of(&given);
@@ -50,6 +51,31 @@ fn sizes_come_before_holes_and_depths() {
         trials.run_sized("a wrong answer", service, &given, wrong, &Expected::refused(11, 0));
         let number = if service.refuses_holes() { 8 } else { 12 };
         trials.run("right sizes", service, &given, &Expected::refused(number, 0));
+    }
+}
+
+/// The same of records whose only fault is that they are out of order.
+#[test]
+fn sizes_come_before_records_out_of_order() {
+    let mut trials = Trials::default();
+    let given = Fixture::of(&["-A", "A-"]);
+    let many = Fixture::tagged(&["A"; 129], &(0..129).rev().collect::<Vec<u32>>());
+    let mut ragged = given.clone();
+    ragged.table.push(0);
+    ragged.cells.push(0);
+    let exact = Sizes::of(&given);
+    let wrong = Sizes { cells: 0, tags: 0, answer: 0, table: 0, counts: 0, ..exact };
+    for service in SERVICES {
+        let wide = given.clone().in_columns(129);
+        trials.run_sized("129 columns", service, &wide, exact, &Expected::refused(3, 0));
+        trials.run_sized("ragged", service, &ragged, exact, &Expected::refused(1, 0));
+        trials.run("129 fragments", service, &many, &Expected::refused(2, 0));
+        trials.run_sized("wrong outputs", service, &given, wrong, &Expected::refused(11, 0));
+        trials.run("right sizes", service, &given, &Expected::refused(13, 1));
+    }
+    for service in WITH_WORK {
+        let short = Sizes { work: 32_767, ..wrong };
+        trials.run_sized("short work", service, &given, short, &Expected::refused(10, 0));
     }
 }
 
@@ -112,20 +138,31 @@ fn rules_of_a_record() {
     ]);
 }
 
-/// The same with the tag of an earlier record. Between 7 and 9 only S and F see the hole.
+/// The same with the tag of an earlier record, or out of order, or both. Between 7 and 9 only S and F see the hole.
 #[test]
-fn rules_of_a_record_with_a_tag_twice() {
+fn rules_of_a_record_before_9_and_13() {
     let mut trials = Trials::default();
-    let twice = Fixture::tagged(&["A----", "AAAAA", "A----"], &[10, 10, 12]);
-    let gapped = Fixture::tagged(&["A----", "AA-AA", "A----"], &[10, 10, 12]);
-    for service in OF_TABLES {
-        for (name, _, _, edits, number) in OF_A_RECORD {
-            let given = twice.clone().edited(1, edits);
-            trials.run(&format!("{name} and 9"), service, &given, &Expected::refused(number, 1));
+    // The name, the record before it, the tags, and the number. An edit for rule 4 makes the start 1, which is below 2.
+    let rows = [
+        ("9", "A----", [10, 10, 12], 9),
+        ("13 by start", "--A--", [10, 11, 12], 13),
+        ("13 by tag", "A----", [11, 10, 12], 13),
+        ("9 and 13", "--A--", [10, 10, 12], 9),
+    ];
+    for (last, first, tags, number) in rows {
+        let faulty = Fixture::tagged(&[first, "AAAAA", "--A--"], &tags);
+        let gapped = Fixture::tagged(&[first, "AA-AA", "--A--"], &tags);
+        for service in OF_TABLES {
+            for (name, _, _, edits, earlier) in OF_A_RECORD {
+                let given = faulty.clone().edited(1, edits);
+                trials.run(&format!("{name} and {last}"), service, &given, &Expected::refused(earlier, 1));
+            }
+            let of_gapped = if service.refuses_holes() { 8 } else { number };
+            trials.run(&format!("8 and {last}"), service, &gapped, &Expected::refused(of_gapped, 1));
         }
-        let number = if service.refuses_holes() { 8 } else { 9 };
-        trials.run("8 and 9", service, &gapped, &Expected::refused(number, 1));
-        trials.run("9", service, &twice, &Expected::refused(9, 1));
+        for service in SERVICES {
+            trials.run(last, service, &faulty, &Expected::refused(number, 1));
+        }
     }
     let given = Fixture::tagged(&["A----", "AA-AA", "A----"], &[10, 11, 12]);
     trials.run_each("8", &given, &Each::of_conflict_free(&given, "11111 AA-AA ----- 111 0,1,2").gapped(1));
@@ -134,19 +171,31 @@ fn rules_of_a_record_with_a_tag_twice() {
 }
 
 /// Calls at both ends of 128 columns reach over more than 96. As a record they are out of frame, whatever the codes.
-/// The numbers are those of pack, of S and F, and of the others.
+/// The fragment before starts at column 1 or 2, so that this one is out of order, or at 0. The numbers are those of pack,
+/// of S and F, and of the others.
 #[test]
 fn rules_of_packs_fragments() {
     let mut trials = Trials::default();
+    let (unknown, far) = (mates([('?', 0), ('A', 127)], 128), mates([('A', 0), ('B', 127)], 128));
+    let [near, gapped, whole] = ["?AB", "A-B", "AAB"].map(|letters| padded(letters, 128));
     let rows = [
-        ("6, 4, a hole and 9", mates([('?', 0), ('A', 127)], 128), [10, 10], [6, 4, 4]),
-        ("4, a hole and 9", mates([('A', 0), ('B', 127)], 128), [10, 10], [4, 4, 4]),
-        ("a hole and 9", padded("A-B", 128), [10, 10], [9, 8, 9]),
-        ("9", padded("AAB", 128), [10, 10], [9, 9, 9]),
-        ("4 and a hole", mates([('A', 0), ('B', 127)], 128), [10, 11], [4, 4, 4]),
+        ("6, 4, a hole, 9 and 13", "-A", &unknown, [10, 10], [6, 4, 4]),
+        ("4, a hole, 9 and 13", "-A", &far, [10, 10], [4, 4, 4]),
+        ("a hole, 9 and 13", "-A", &gapped, [10, 10], [9, 8, 9]),
+        ("9 and 13", "-A", &whole, [10, 10], [9, 9, 9]),
+        ("6, 4, a hole and 13", "-A", &unknown, [10, 11], [6, 4, 4]),
+        ("6 and 13", "--A", &near, [10, 11], [6, 6, 6]),
+        ("4, a hole and 13", "-A", &far, [10, 11], [4, 4, 4]),
+        ("a hole and 13", "-A", &gapped, [10, 11], [13, 8, 13]),
+        ("13", "-A", &whole, [10, 11], [13, 13, 13]),
+        ("6, 4, a hole and 9", "A", &unknown, [10, 10], [6, 4, 4]),
+        ("4, a hole and 9", "A", &far, [10, 10], [4, 4, 4]),
+        ("a hole and 9", "A", &gapped, [10, 10], [9, 8, 9]),
+        ("9", "A", &whole, [10, 10], [9, 9, 9]),
+        ("4 and a hole", "A", &far, [10, 11], [4, 4, 4]),
     ];
-    for (name, letters, tags, [of_pack, of_gapless, of_mates]) in rows {
-        let given = Fixture::tagged(&[&padded("A", 128), &letters], &tags);
+    for (name, first, letters, tags, [of_pack, of_gapless, of_mates]) in rows {
+        let given = Fixture::tagged(&[&padded(first, 128), letters], &tags);
         trials.run(name, Service::Pack, &given, &Expected::refused(of_pack, 1));
         for service in OF_TABLES {
             let number = if service.refuses_holes() { of_gapless } else { of_mates };
@@ -170,12 +219,20 @@ fn records_from_0() {
     let gapped = Fixture::of(&["A-A", "AAA", "AAA"]);
     let open = Fixture::of(&["AAA", "AAA", "AAA"]).edited(1, &[(8, 0b00_01_01)]).edited(2, &[(7, 1)]);
     let twice = Fixture::tagged(&["AAA", "AAA", "AAA"], &[10, 10, 12]).edited(2, &[(4, 1)]);
-    let rows: [(&str, Fixture, Refusals); 5] = [
+    let unordered = Fixture::tagged(&["AAA", "AAA", "AAA"], &[11, 10, 12]);
+    let last = Fixture::tagged(&["AAA", "AAA", "AAA"], &[10, 12, 11]);
+    let rows: [(&str, Fixture, Refusals); 11] = [
         ("8 at 0, 4 at 1", gapped.clone().edited(1, &[(4, 1)]), [(8, 0), (4, 1)]),
         ("8 at 0, 5 at 1, 4 at 2", gapped.clone().edited(1, &[(7, 1)]).edited(2, &[(4, 1)]), [(8, 0), (5, 1)]),
         ("8 at 0, 7 at 2", gapped.edited(2, &[(8, 0b01_01_00)]), [(8, 0), (7, 2)]),
         ("7 at 1, 5 at 2", open, [(7, 1); 2]),
         ("9 at 1, 4 at 2", twice, [(9, 1); 2]),
+        ("13 at 1, 4 at 2", unordered.clone().edited(2, &[(4, 1)]), [(13, 1); 2]),
+        ("13 at 1, 5 at 2", unordered.clone().edited(2, &[(7, 1)]), [(13, 1); 2]),
+        ("13 at 1, 7 at 2", unordered.edited(2, &[(8, 0b01_01_00)]), [(13, 1); 2]),
+        ("4 at 1, 13 at 2", last.clone().edited(1, &[(4, 1)]), [(4, 1); 2]),
+        ("5 at 0, 13 at 2", last.clone().edited(0, &[(7, 1)]), [(5, 0); 2]),
+        ("7 at 1, 13 at 2", last.edited(1, &[(8, 0b00_01_01)]), [(7, 1); 2]),
     ];
     for (name, given, refusals) in &rows {
         for service in OF_TABLES {
@@ -188,13 +245,21 @@ fn records_from_0() {
 #[test]
 fn fragments_from_0() {
     let mut trials = Trials::default();
-    let rows: [(&str, [&str; 3], [u32; 3], Refusals); 6] = [
+    let rows: [(&str, [&str; 3], [u32; 3], Refusals); 14] = [
         ("8 at 0, 6 at 1", ["A-A", "?AA", "AAA"], [10, 11, 12], [(8, 0), (6, 1)]),
         ("8 at 1, 6 at 2", ["AAA", "A-B", "A?A"], [10, 11, 12], [(8, 1), (6, 2)]),
         ("9 at 1, 6 at 2", ["AAA", "AAA", "A?A"], [10, 10, 12], [(9, 1); 2]),
         ("9 at 1, 8 at 2", ["AAA", "AAA", "A-A"], [10, 10, 12], [(9, 1); 2]),
         ("6 at 0, 9 at 1", ["??A", "AAA", "AAA"], [10, 10, 12], [(6, 0); 2]),
         ("8 at 0, 9 at 2", ["A-A", "AAA", "AAA"], [10, 11, 11], [(8, 0), (9, 2)]),
+        ("8 at 0, 13 at 1", ["A-A", "AAA", "AAA"], [11, 10, 12], [(8, 0), (13, 1)]),
+        ("8 at 1, 13 at 2", ["AAA", "A-A", "AAA"], [10, 12, 11], [(8, 1), (13, 2)]),
+        ("6 at 0, 13 at 1", ["-?A", "AAA", "AAA"], [10, 11, 12], [(6, 0); 2]),
+        ("9 at 1, 13 at 2", ["-AA", "-AA", "AAA"], [10, 10, 12], [(9, 1); 2]),
+        ("13 at 1, 6 at 2", ["-AA", "AAA", "A?A"], [10, 11, 12], [(13, 1); 2]),
+        ("13 at 1, 8 at 2", ["-AA", "AAA", "A-A"], [10, 11, 12], [(13, 1); 2]),
+        ("13 at 1, 9 at 2", ["-AA", "AAA", "AAA"], [10, 11, 11], [(13, 1); 2]),
+        ("13 at 1, 13 at 2", ["--A", "-AA", "AAA"], [10, 11, 12], [(13, 1); 2]),
     ];
     for (name, fragments, tags, refusals) in rows {
         for service in SERVICES {

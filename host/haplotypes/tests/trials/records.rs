@@ -4,7 +4,7 @@
 use crate::calls::Service::{Pack, Unpack};
 use crate::calls::Trials;
 use crate::expected::{Each, Expected};
-use crate::fixtures::{is_gapped, lone, mates, padded, Fixture};
+use crate::fixtures::{by_start, is_gapped, lone, mates, padded, Fixture};
 
 /// A fragment in letters, its tag, and the bytes of its record up to where the rest are 0.
 type Record = (&'static str, u32, &'static [u8]);
@@ -68,7 +68,7 @@ fn holed(i: usize) -> String {
     long(i).char_indices().map(|(c, letter)| if hole(c) { '-' } else { letter }).collect()
 }
 
-/// Tables of many fragments, some of them with calls at the last column.
+/// Tables of many fragments, put in order, some of them with calls at the last column.
 #[test]
 fn tables_both_ways() {
     let mut trials = Trials::default();
@@ -79,7 +79,7 @@ fn tables_both_ways() {
         ("128 long fragments with holes", holed),
     ];
     for (name, fragment) in tables {
-        let given = Fixture::of(&(0..128).map(fragment).collect::<Vec<String>>());
+        let given = Fixture::of(&by_start((0..128).map(fragment).collect()));
         trials.run(name, Unpack, &given, &Expected::unpacked(&given));
         trials.run(name, Pack, &given, &Expected::packed(&given));
     }
