@@ -2,18 +2,18 @@
 //! longer settles anything, fails it. The generator says how many tables a kind has. The rest depends on the seed: at least
 //! half of what is usual is asked for, a quarter of what is below 40, and nothing below 12.
 //!
-//! The listing meets the refusals 1 to 7 and 9, in the lines of S and F 8, and in C's 12. It never meets 10 and 11, as it lends
-//! itself enough work and buffers of the right length. Every service meets the refusals that it has: 8 is of S and F alone, 10 of
-//! those that borrow work, 12 of C alone, pack has neither 5 nor 7, as cells have no stray bits and no ends, and find refuses
-//! nothing.
+//! The listing meets the refusals 1 to 7, 9 and 13, in the lines of S and F 8, and in C's 12. It never meets 10 and 11, as it
+//! lends itself enough work and buffers of the right length. Every service meets the refusals that it has: 8 is of S and F alone,
+//! 10 of those that borrow work, 12 of C alone, pack has neither 5 nor 7, as cells have no stray bits and no ends, and find
+//! refuses nothing.
 
 use crate::runner::{sum, Tally};
-use crate::seen::{Seen, Verdict};
+use crate::seen::{Seen, Verdict, PLACES};
 use crate::service::Service::{self, Check, ConflictCounts, Corrections, Find, Fragments, Pack, Snps, Unpack};
 use Verdict::{Absent, Accepted, First, No, Only, Refused, Yes};
 
-/// A kind's tables, and the least of them with each verdict: yes, no, refused by C alone, by S and F alone, and by rule 1 to
-/// 9.
+/// A kind's tables, and the least of them with each verdict: yes, no, refused by C alone, by S and F alone, and by each of the
+/// rules of the whole table.
 struct Kind {
     name: &'static str,
     tables: usize,
@@ -24,9 +24,11 @@ struct Kind {
     refused: [usize; 9],
 }
 
+/// The rules of the whole table.
+const RULES: [usize; 9] = [1, 2, 3, 4, 5, 6, 7, 9, 13];
 const NONE: [usize; 9] = [0; 9];
 
-const KINDS: [Kind; 37] = [
+const KINDS: [Kind; 39] = [
     kind("no records", 3, [3, 0, 0, 0], NONE),
     kind("uniform", 1500, [360, 370, 20, 0], NONE),
     kind("noisy copies", 2000, [500, 490, 7, 0], NONE),
@@ -41,11 +43,13 @@ const KINDS: [Kind; 37] = [
     kind("mates, cycles", 1500, [170, 570, 0, 1500], NONE),
     kind("mates, deep", 800, [30, 360, 320, 800], NONE),
     kind("mates, 12 x 12", 300, [50, 95, 30, 300], NONE),
-    kind("one fault", 1500, [100, 80, 9, 45], [60, 40, 70, 80, 100, 50, 60, 0, 65]),
-    kind("several faults", 1000, [4, 3, 0, 4], [30, 30, 160, 45, 85, 35, 40, 0, 30]),
-    kind("mates and faults", 800, [30, 20, 0, 50], [5, 4, 85, 30, 85, 35, 40, 0, 35]),
+    kind("one fault", 1500, [100, 80, 9, 45], [60, 40, 70, 80, 100, 50, 60, 65, 0]),
+    kind("several faults", 1000, [4, 3, 0, 4], [25, 40, 160, 45, 85, 35, 35, 40, 0]),
+    kind("mates and faults", 800, [30, 20, 0, 50], [5, 4, 85, 30, 85, 35, 40, 35, 0]),
     kind("long or ragged", 400, [5, 0, 5, 0], [50, 95, 30, 0, 0, 0, 0, 0, 0]),
-    kind("random fields", 600, [45, 0, 0, 4], [0, 0, 130, 20, 5, 55, 20, 0, 0]),
+    kind("random fields", 600, [45, 0, 0, 4], [0, 0, 130, 6, 5, 55, 25, 0, 0]),
+    kind("out of order", 1500, [7, 0, 0, 0], [0, 0, 0, 0, 0, 0, 0, 10, 700]),
+    kind("out of order, faulty", 1500, [0, 0, 0, 0], [0, 5, 115, 45, 120, 55, 50, 140, 185]),
     kind("shifted", 300, [40, 100, 5, 0], NONE),
     kind("few, long", 200, [4, 90, 0, 0], NONE),
     kind("many, short", 200, [0, 95, 200, 0], NONE),
@@ -83,39 +87,51 @@ const CALLS: [(Service, usize); 8] = [
     (Corrections, 19),
 ];
 
-/// What the calls of a service must have returned, over all kinds: the least of each acceptance and of refusals 1 to 12.
+/// What the calls of a service must have returned, over all kinds: the least of each acceptance and of refusals 1 to 13.
 struct Replies {
     service: Service,
     accepted: &'static [(Verdict, usize)],
-    refused: [usize; 12],
+    refused: [usize; 13],
 }
 
 const REPLIES: [Replies; 8] = [
-    replies(Unpack, &[(Accepted, 41500)], [2900, 1700, 30500, 13500, 1250, 850, 740, 0, 560, 0, 100000, 0]),
-    replies(Pack, &[(Accepted, 17500)], [100000, 1000, 27000, 165, 0, 1600, 0, 0, 1700, 0, 46500, 0]),
-    replies(Find, &[(Only, 25000), (First, 12000), (Absent, 36000)], [0; 12]),
-    replies(Check, &[(Yes, 19000), (No, 21500)], [2100, 1250, 28500, 13500, 1250, 840, 730, 0, 550, 0, 57000, 0]),
-    replies(ConflictCounts, &[(Accepted, 41000)], [2100, 1250, 28500, 13500, 1250, 840, 730, 0, 550, 0, 57000, 0]),
-    replies(Snps, &[(Yes, 7500), (No, 7700)], [2700, 1600, 30000, 10500, 1000, 720, 640, 28500, 420, 40000, 51000, 0]),
+    replies(Unpack, &[(Accepted, 41500)], [2900, 1700, 30500, 13500, 1850, 1200, 1000, 0, 1300, 0, 100000, 0, 3400]),
+    replies(Pack, &[(Accepted, 17500)], [100000, 1000, 27000, 235, 0, 1600, 0, 0, 1700, 0, 46500, 0, 2100]),
+    replies(Find, &[(Only, 25000), (First, 12000), (Absent, 36000)], [0; 13]),
+    replies(
+        Check,
+        &[(Yes, 19000), (No, 21500)],
+        [2100, 1250, 28500, 13500, 1850, 1150, 1000, 0, 1300, 0, 57000, 0, 3400],
+    ),
+    replies(
+        ConflictCounts,
+        &[(Accepted, 41000)],
+        [2100, 1250, 28500, 13500, 1850, 1150, 1000, 0, 1300, 0, 57000, 0, 3400],
+    ),
+    replies(
+        Snps,
+        &[(Yes, 7500), (No, 7700)],
+        [2700, 1600, 30000, 10500, 1450, 1000, 850, 28500, 970, 40000, 51000, 0, 2400],
+    ),
     replies(
         Fragments,
         &[(Yes, 7500), (No, 7700)],
-        [2700, 1600, 30000, 10500, 1000, 720, 640, 28500, 420, 40000, 51000, 0],
+        [2700, 1600, 30000, 10500, 1450, 1000, 850, 28500, 970, 40000, 51000, 0, 2400],
     ),
     replies(
         Corrections,
         &[(Yes, 18000), (No, 18500)],
-        [3500, 2100, 32000, 13500, 1250, 840, 730, 0, 550, 40000, 97000, 3700],
+        [3500, 2100, 32000, 13500, 1850, 1150, 1000, 0, 1300, 40000, 97000, 3700, 3400],
     ),
 ];
 
-const fn replies(service: Service, accepted: &'static [(Verdict, usize)], refused: [usize; 12]) -> Replies {
+const fn replies(service: Service, accepted: &'static [(Verdict, usize)], refused: [usize; 13]) -> Replies {
     Replies { service, accepted, refused }
 }
 
 /// What else the calls must have seen, over all kinds. Of conflicts it is the tables that count, as each goes through a
 /// call with its own columns and exact lengths.
-const CALLED: [(Seen, usize); 12] = [
+const CALLED: [(Seen, usize); 13] = [
     (Seen::LongWork(Snps), 11500),
     (Seen::LongWork(Fragments), 11500),
     (Seen::LongWork(Corrections), 27500),
@@ -126,6 +142,7 @@ const CALLED: [(Seen, usize); 12] = [
     (Seen::CorrectedApart, 1150),
     (Seen::FoundInRagged, 740),
     (Seen::FoundPastMost, 230),
+    (Seen::FoundOutOfOrder, 3400),
     (Seen::TableRoundTrip, 10500),
     (Seen::CellsRoundTrip, 8800),
 ];
@@ -139,8 +156,8 @@ const GAPPED: [(Seen, usize); 10] = [
     (Seen::GappedCorrected(No), 3100),
     (Seen::GapAlone(Snps), 25000),
     (Seen::GapAlone(Fragments), 25000),
-    (Seen::GapBeforeFault(Snps), 3500),
-    (Seen::GapBeforeFault(Fragments), 3500),
+    (Seen::GapBeforeFault(Snps), 6700),
+    (Seen::GapBeforeFault(Fragments), 6700),
     (Seen::GappedTableRoundTrip, 6500),
     (Seen::GappedCellsRoundTrip, 3900),
 ];
@@ -160,6 +177,64 @@ const OF_MATES: [(&str, Seen, usize); 12] = [
     ("full, mates at depth", Seen::CoversUncalled, 25),
     ("full, far mates", Seen::FarthestMates, 60),
 ];
+
+/// Of 13 beside the other rules, over all kinds, the least of: refusals 13 where no other rule is broken, where a later record
+/// breaks one, and where a later one is out of order too; refusals by another rule of a record before the first that is out of
+/// order; refusals 13 by their places; refusals by rule 4 to 9 of the first record that is out of order. The calls at place
+/// 127 are of about twelve tables, so a fifth of them is asked for.
+struct Order {
+    service: Service,
+    turns: [usize; 4],
+    places: [usize; 4],
+    faults: [usize; 6],
+}
+
+const ORDERS: [Order; 7] = [
+    order(Unpack, [2800, 670, 1850, 1600], [1900, 1350, 150, 10], [235, 360, 140, 135, 0, 420]),
+    order(Pack, [1700, 390, 880, 360], [980, 790, 320, 8], [9, 0, 165, 0, 0, 155]),
+    order(Check, [2750, 670, 1850, 1600], [1850, 1350, 150, 10], [230, 350, 140, 135, 0, 410]),
+    order(ConflictCounts, [2750, 670, 1850, 1600], [1900, 1350, 150, 10], [230, 350, 140, 135, 0, 410]),
+    order(Snps, [1750, 660, 1350, 2700], [1400, 860, 135, 10], [190, 275, 105, 100, 225, 280]),
+    order(Fragments, [1750, 660, 1350, 2750], [1400, 860, 130, 10], [185, 275, 105, 105, 225, 280]),
+    order(Corrections, [1850, 670, 1850, 1600], [1850, 1350, 150, 10], [230, 350, 145, 135, 0, 410]),
+];
+
+const fn order(service: Service, turns: [usize; 4], places: [usize; 4], faults: [usize; 6]) -> Order {
+    Order { service, turns, places, faults }
+}
+
+/// C's refusals 13 of tables that are too deep.
+const BEFORE_DEPTH: usize = 890;
+
+/// Of each comparison that is not the order of records: the least of the refusals 13 that it misses, and of the acceptances
+/// that it would refuse, of every service on a table, and of pack.
+pub struct OtherOrder {
+    pub name: &'static str,
+    pub of_tables: [usize; 2],
+    pub of_pack: [usize; 2],
+}
+
+pub const OTHER_ORDERS: [OtherOrder; 15] = [
+    other_order("none", [2400, 0], [2100, 0]),
+    other_order("by start alone", [1050, 0], [1450, 0]),
+    other_order("by start and tag, both", [1800, 0], [1800, 0]),
+    other_order("by the highest byte of tags", [750, 0], [820, 0]),
+    other_order("with record 0", [1150, 0], [770, 0]),
+    other_order("of fragments with calls", [380, 0], [1200, 0]),
+    other_order("without calls by start alone", [150, 0], [1100, 0]),
+    other_order("by start or tag", [0, 12000], [0, 5700]),
+    other_order("by starts that differ", [0, 13500], [0, 7700]),
+    other_order("by tag alone", [740, 12000], [320, 5700]),
+    other_order("by the lowest byte of tags", [620, 6100], [590, 3400]),
+    other_order("by the bytes of tags in turn", [440, 6200], [390, 3600]),
+    other_order("by tags with a sign", [65, 1500], [240, 1000]),
+    other_order("without calls last", [330, 810], [155, 4300]),
+    other_order("without calls by tag alone", [160, 310], [70, 1550]),
+];
+
+const fn other_order(name: &'static str, of_tables: [usize; 2], of_pack: [usize; 2]) -> OtherOrder {
+    OtherOrder { name, of_tables, of_pack }
+}
 
 /// What each method must have settled, over all kinds.
 const SETTLED: [(&str, usize); 11] = [
@@ -219,7 +294,9 @@ pub fn demands(with_listing: bool) -> Vec<Demand> {
     let returned = REPLIES.iter().flat_map(Replies::leasts);
     let settled = SETTLED.map(|(name, least)| (Seen::By(name), least));
     let listed = LISTED.into_iter().filter(|_| with_listing);
-    let of_all = returned.chain(CALLED).chain(GAPPED).chain(settled).chain(listed);
+    let orders = ORDERS.iter().flat_map(Order::leasts).chain([(Seen::OrderBeforeDepth, BEFORE_DEPTH)]);
+    let other_orders = OTHER_ORDERS.iter().flat_map(OtherOrder::leasts);
+    let of_all = returned.chain(CALLED).chain(GAPPED).chain(orders).chain(other_orders).chain(settled).chain(listed);
     of_kinds
         .chain(of_mates)
         .chain(of_all.map(|(seen, least)| Demand { kind: None, seen, number: Number::AtLeast(least) }))
@@ -237,7 +314,7 @@ impl Kind {
             (Seen::TooDeep, self.too_deep),
             (Seen::Gapped, self.gapped),
         ];
-        let refused = (1..).zip(self.refused).map(|(rule, least)| (Seen::Listed(Refused(rule)), least));
+        let refused = RULES.into_iter().zip(self.refused).map(|(rule, least)| (Seen::Listed(Refused(rule)), least));
         let least = verdicts.into_iter().chain(refused).filter(|&(_, least)| least > 0);
         let exact = exact.map(|(seen, count)| (seen, Number::Exactly(count)));
         let all = exact.chain(least.map(|(seen, least)| (seen, Number::AtLeast(least))));
@@ -250,6 +327,30 @@ impl Replies {
         let refused = (1..).zip(self.refused).map(|(rule, least)| (Refused(rule), least));
         let all = self.accepted.iter().copied().chain(refused).filter(|&(_, least)| least > 0);
         all.map(|(verdict, least)| (Seen::Returned(self.service, verdict), least))
+    }
+}
+
+impl Order {
+    fn leasts(&self) -> Vec<(Seen, usize)> {
+        let service = self.service;
+        let turns = [Seen::OrderAlone, Seen::OrderBeforeFault, Seen::FirstOutOfOrder, Seen::FaultBeforeOrder]
+            .map(|of| of(service));
+        let places = PLACES.map(|place| Seen::OutOfOrderFrom(service, place));
+        let faults = [4, 5, 6, 7, 8, 9].map(|rule| Seen::FaultOutOfOrder(service, rule));
+        let turns = turns.into_iter().zip(self.turns);
+        let all = turns.chain(places.into_iter().zip(self.places)).chain(faults.into_iter().zip(self.faults));
+        all.filter(|&(_, least)| least > 0).collect()
+    }
+}
+
+impl OtherOrder {
+    fn leasts(&self) -> Vec<(Seen, usize)> {
+        let of = |service, [missed, made_up]: [usize; 2]| {
+            [(Seen::Missed(service, self.name), missed), (Seen::MadeUp(service, self.name), made_up)]
+        };
+        let tables = Service::ON_TABLES.into_iter().flat_map(|service| of(service, self.of_tables));
+        let all = tables.chain(of(Pack, self.of_pack));
+        all.filter(|&(_, least)| least > 0).collect()
     }
 }
 

@@ -19,6 +19,7 @@ mod guarded;
 mod library;
 mod listing;
 mod methods;
+mod order;
 mod program;
 mod record;
 mod rng;

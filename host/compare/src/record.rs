@@ -1,4 +1,4 @@
-//! The 32-byte record: its fields, its cells, and the matrix of a table.
+//! The 32-byte record: its fields, its cells, and the order and the matrix of a table.
 
 use std::ops::Range;
 
@@ -20,6 +20,11 @@ pub fn start(record: &[u8]) -> usize {
 
 pub fn span(record: &[u8]) -> usize {
     record[6] as usize
+}
+
+/// What records stand in order by: the start, and at one start the tag.
+pub fn order(record: &[u8]) -> (usize, u32) {
+    (start(record), tag(record))
 }
 
 pub fn cell(record: &[u8], i: usize) -> u8 {
@@ -66,6 +71,13 @@ pub fn is_gapped(row: &[u8]) -> bool {
 
 pub fn whole_records(table: &[u8]) -> impl Iterator<Item = &[u8]> {
     table.chunks_exact(RECORD)
+}
+
+/// The table with its whole records in order; a part of a record stays at the end.
+pub fn in_order(table: &[u8]) -> Vec<u8> {
+    let mut records: Vec<&[u8]> = whole_records(table).collect();
+    records.sort_by_key(|record| order(record));
+    [&records.concat(), table.chunks_exact(RECORD).remainder()].concat()
 }
 
 /// The positions of the whole records with a tag.

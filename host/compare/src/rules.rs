@@ -1,6 +1,9 @@
-//! The refusals of paper 01, with the mate pairs of paper 02's T-01, in their order and straight from the bytes.
+//! The refusals of paper 01, with the mate pairs of paper 02's T-01 and the order of records of its T-02, straight from the
+//! bytes and in the order in which they are tested.
 
-use crate::record::{cell, is_gapped, span, start, stretch, tag, whole_records, Matrix, A, B, CELLS, HOLE, RECORD};
+use crate::record::{
+    cell, is_gapped, order, span, start, stretch, tag, whole_records, Matrix, A, B, CELLS, HOLE, RECORD,
+};
 use crate::service::{Buffer, Service};
 
 pub const MOST_FRAGMENTS: usize = 128;
@@ -20,14 +23,14 @@ pub fn table_fault(n: usize, table: &[u8]) -> Option<Refusal> {
     call_fault(Service::Check, n, table, &[])
 }
 
-/// The first fault of a call on a table, but for C's own: 3, 1, 2, and then the records by 4 to 7 and 9, for S and F by 8
+/// The first fault of a call on a table, but for C's own: 3, 1, 2, and then the records by 4 to 7, 9 and 13, for S and F by 8
 /// before 9. What it lends, each buffer with its length, is tested between the sizes and the records.
 pub fn call_fault(service: Service, n: usize, table: &[u8], lent: &[(Buffer, usize)]) -> Option<Refusal> {
     let m = table.len() / RECORD;
     size_fault(n, table).or_else(|| lent_fault(n, m, lent)).or_else(|| records_fault(service, n, table))
 }
 
-/// The first fault of a call of pack: 3, 1, 2, 11, and then the fragments by 6, 4, 9.
+/// The first fault of a call of pack: 3, 1, 2, 11, and then the fragments by 6, 4, 9, 13.
 pub fn pack_fault(n: usize, cells: &[u8], tags: &[u32], table_length: usize) -> Option<Refusal> {
     let m = tags.len();
     first_broken(&[(3, n > MOST_COLUMNS)])
@@ -35,8 +38,21 @@ pub fn pack_fault(n: usize, cells: &[u8], tags: &[u32], table_length: usize) -> 
         .or_else(|| lent_fault(n, m, &[(Buffer::Table, table_length)]))
         .or_else(|| {
             let rows = Matrix::of_cells(n, m, cells).rows;
-            (0..m).find_map(|place| fragment_fault(&rows[place], tags, place).map(|number| Refusal { number, place }))
+            let order = |place: usize| (stretch(&rows[place]).start, tags[place]);
+            first_of_places(m, |place| fragment_fault(&rows[place], tags, place).or(order_fault(place, order)))
         })
+}
+
+/// The first fault of a table's records by the rules but 13: what a service would say if their order were free.
+pub fn fault_in_any_order(service: Service, n: usize, table: &[u8]) -> Option<Refusal> {
+    let records: Vec<&[u8]> = whole_records(table).collect();
+    first_of_places(records.len(), |place| record_fault(service, n, &records, place))
+}
+
+/// The same of pack's fragments.
+pub fn pack_fault_in_any_order(n: usize, cells: &[u8], tags: &[u32]) -> Option<Refusal> {
+    let rows = Matrix::of_cells(n, tags.len(), cells).rows;
+    first_of_places(rows.len(), |place| fragment_fault(&rows[place], tags, place))
 }
 
 /// S's and F's own fault in a table that check takes: the first fragment with a hole between two calls.
@@ -78,8 +94,18 @@ fn fragment_fault(row: &[u8], tags: &[u32], place: usize) -> Option<usize> {
 
 fn records_fault(service: Service, n: usize, table: &[u8]) -> Option<Refusal> {
     let records: Vec<&[u8]> = whole_records(table).collect();
-    let fault = |place: usize| record_fault(service, n, &records, place).map(|number| Refusal { number, place });
-    (0..records.len()).find_map(fault)
+    let order = |place: usize| order(records[place]);
+    first_of_places(records.len(), |place| record_fault(service, n, &records, place).or(order_fault(place, order)))
+}
+
+/// The first record or fragment with a fault, which is given by its number.
+fn first_of_places(m: usize, fault: impl Fn(usize) -> Option<usize>) -> Option<Refusal> {
+    (0..m).find_map(|place| fault(place).map(|number| Refusal { number, place }))
+}
+
+/// 13, of what comes before its predecessor in the order of records.
+fn order_fault(place: usize, order: impl Fn(usize) -> (usize, u32)) -> Option<usize> {
+    (place > 0 && order(place) < order(place - 1)).then_some(13)
 }
 
 fn record_fault(service: Service, n: usize, records: &[&[u8]], place: usize) -> Option<usize> {

@@ -4,10 +4,11 @@ use crate::compare;
 use crate::generate::{kinds, Kind};
 use crate::listing::{hexadecimal, rows, MOST_BYTES};
 use crate::methods::{self, CHECK};
+use crate::order::OTHERS;
 use crate::record::{column_count, Matrix};
 use crate::rng::Rng;
 use crate::rules::table_fault;
-use crate::seen::{Counts, Seen, Verdict};
+use crate::seen::{Counts, Seen, Verdict, PLACES};
 use crate::service::Service;
 use std::path::Path;
 use std::sync::atomic::{AtomicBool, AtomicUsize, Ordering};
@@ -138,6 +139,7 @@ fn print_tallies(tallies: &[Tally]) {
     println!("two fragments in two blocks share a kept column: tables {sharing}; conflict on a removed one: {removed}");
     println!("two fragments in two blocks conflicted before correction: tables {corrected}");
     print_gapped(&all.counts);
+    print_order(&all.counts);
     let settled = methods::names().into_iter().map(|name| format!("{name} {}", all.counts.of(Seen::By(name))));
     println!("settled: {}", settled.collect::<Vec<_>>().join(", "));
 }
@@ -161,6 +163,35 @@ fn print_gapped(counts: &Counts) {
     for service in [Service::Snps, Service::Fragments] {
         let [alone, before] = [Seen::GapAlone(service), Seen::GapBeforeFault(service)].map(|seen| counts.of(seen));
         println!("{} refuses by 8 where check accepts: calls {alone}; where check refuses: {before}", service.name());
+    }
+}
+
+/// What was seen of records out of order. Of a comparison that is not this order it is the least of all services on tables.
+fn print_order(counts: &Counts) {
+    for service in Service::ALL.into_iter().filter(|&service| service != Service::Find) {
+        let named = [
+            ("alone", Seen::OrderAlone(service)),
+            ("before a later fault", Seen::OrderBeforeFault(service)),
+            ("of the first of several", Seen::FirstOutOfOrder(service)),
+            ("after a fault", Seen::FaultBeforeOrder(service)),
+        ];
+        let turns = named.map(|(name, seen)| format!("{name} {}", counts.of(seen))).join(", ");
+        let places =
+            PLACES.map(|place| format!("{place}:{}", counts.of(Seen::OutOfOrderFrom(service, place)))).join(" ");
+        let faults = (4..=9).map(|rule| (rule, counts.of(Seen::FaultOutOfOrder(service, rule))));
+        let faults: Vec<String> =
+            faults.filter(|&(_, count)| count > 0).map(|(rule, count)| format!("{rule}:{count}")).collect();
+        println!("{} and order: {turns}; from place {places}; refused by rule {}", service.name(), faults.join(" "));
+    }
+    println!("C's 13 where a column is too deep: calls {}", counts.of(Seen::OrderBeforeDepth));
+    for other in &OTHERS {
+        let least = |of: fn(Service, &'static str) -> Seen| {
+            let tables = Service::ON_TABLES.map(|service| counts.of(of(service, other.name)));
+            let pack = counts.of(of(Service::Pack, other.name));
+            format!("{} and {pack}", tables.into_iter().min().unwrap_or(0))
+        };
+        let (missed, made_up) = (least(Seen::Missed), least(Seen::MadeUp));
+        println!("order {}: 13 missed on tables and by pack {missed}; made up {made_up}", other.name);
     }
 }
 

@@ -7,6 +7,9 @@ use crate::methods::{CHECK, CORRECTIONS};
 use crate::service::Service;
 use std::collections::BTreeMap;
 
+/// Refusals 13 are counted by their places: from each of these on, up to the next. The last is the last of a full table.
+pub const PLACES: [usize; 4] = [1, 3, 30, 127];
+
 #[derive(Clone, Copy, PartialEq, Eq, PartialOrd, Ord, Debug)]
 pub enum Seen {
     Table,
@@ -52,14 +55,34 @@ pub enum Seen {
     Returned(Service, Verdict),
     /// S's or F's refusal 8 where check accepts
     GapAlone(Service),
-    /// S's or F's refusal 8 where check refuses the same record by 9, or a later one
+    /// S's or F's refusal 8 where check refuses the same record by 9 or 13, or a later one
     GapBeforeFault(Service),
+    /// a refusal 13 of a record that another comparison, by its name, takes
+    Missed(Service, &'static str),
+    /// an acceptance of records of which another comparison refuses one
+    MadeUp(Service, &'static str),
+    /// a refusal 13 at this place or a later one, but before the next of `PLACES`
+    OutOfOrderFrom(Service, usize),
+    /// a refusal 13 of the first record of several that are out of order
+    FirstOutOfOrder(Service),
+    /// a refusal 13 where no other rule is broken
+    OrderAlone(Service),
+    /// a refusal 13 where a later record breaks another rule
+    OrderBeforeFault(Service),
+    /// C's refusal 13 where nothing but 12 is broken too
+    OrderBeforeDepth,
+    /// a refusal by another rule of the first record that is out of order
+    FaultOutOfOrder(Service, usize),
+    /// a refusal by another rule of a record before the first that is out of order
+    FaultBeforeOrder(Service),
     /// an acceptance with more work than the least
     LongWork(Service),
     /// a record that find hands back of a table with a part of a record at its end
     FoundInRagged,
     /// a record that find hands back at position 128 or later
     FoundPastMost,
+    /// a record that find hands back where it, or one before it, is out of order
+    FoundOutOfOrder,
     /// a table unpacked and packed again
     TableRoundTrip,
     /// cells and tags packed and unpacked again
@@ -161,7 +184,7 @@ impl Counts {
 
     /// The refusals that occurred, as rule:times.
     pub fn refusals(&self, of: impl Fn(Verdict) -> Seen) -> String {
-        let counts = (1..=12).map(|rule| (rule, self.of(of(Verdict::Refused(rule)))));
+        let counts = (1..=13).map(|rule| (rule, self.of(of(Verdict::Refused(rule)))));
         let shown = counts.filter(|&(_, count)| count > 0).map(|(rule, count)| format!("{rule}:{count}"));
         shown.collect::<Vec<_>>().join(" ")
     }

@@ -39,6 +39,16 @@ impl Service {
         Service::Corrections,
     ];
 
+    /// Those that are called with a table and a column count.
+    pub const ON_TABLES: [Service; 6] = [
+        Service::Unpack,
+        Service::Check,
+        Service::ConflictCounts,
+        Service::Snps,
+        Service::Fragments,
+        Service::Corrections,
+    ];
+
     pub fn name(self) -> &'static str {
         match self {
             Service::Unpack => "unpack",

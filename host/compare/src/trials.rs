@@ -1,14 +1,22 @@
-//! Paper 01's trials, for every method, with the mate pairs of paper 02's T-01, and the counts of conflicts.
+//! Paper 01's trials, for every method, with the mate pairs of paper 02's T-01 and the order of records of its T-02, and the
+//! counts of conflicts.
 
 use crate::answer::Answers;
 use crate::counts::{across_64, conflict_counts, conflicting_apart, over_64, sharing_apart};
-use crate::record::{column_count, places_of, record, stretch, Matrix, RECORD};
+use crate::coverage::{OtherOrder, OTHER_ORDERS};
+use crate::order::{falls, keys_of_cells, keys_of_table, Other, OTHERS};
+use crate::record::{column_count, in_order, places_of, record, stretch, Matrix, RECORD};
 use crate::rng::Rng;
-use crate::rules::{call_fault, gapped, pack_fault, table_fault, too_deep, Refusal};
-use crate::self_test::{gapped_triangle, printed_table, PRINTED_LISTING, TRIANGLE_LISTING};
+use crate::rules::{
+    call_fault, fault_in_any_order, gapped, pack_fault, pack_fault_in_any_order, table_fault, too_deep, Refusal,
+    MOST_FRAGMENTS,
+};
+use crate::self_test::{
+    gapped_triangle, printed_table, unordered_triangle, PRINTED_LISTING, TRIANGLE_LISTING, UNORDERED_LISTING,
+};
 use crate::service::Buffer::{Answer, Corrected, Counts, Work};
-use crate::service::Service::{Check, ConflictCounts, Corrections, Fragments, Snps, Unpack};
-use crate::{brute, gaps, generate, listing, methods};
+use crate::service::Service::{self, Check, ConflictCounts, Corrections, Fragments, Snps, Unpack};
+use crate::{brute, expected, gaps, generate, listing, methods};
 
 /// A table of fragments as the paper writes them, one letter to a column.
 fn table(fragments: &[&str]) -> Vec<u8> {
@@ -43,6 +51,8 @@ fn text(fragments: &[&str]) -> String {
     let (matrix, answers) = answers(fragments);
     listing::accepted(&matrix, &answers)
 }
+
+const TAKING_HOLES: [Service; 4] = [Unpack, Check, ConflictCounts, Corrections];
 
 fn refusal(number: usize, place: usize) -> Option<Refusal> {
     Some(Refusal { number, place })
@@ -123,15 +133,109 @@ fn fragments_in_two_blocks() {
 #[test]
 fn the_gapped_triangle() {
     let bytes = gapped_triangle();
-    assert_eq!(bytes[64..73], [12, 0, 0, 0, 0, 0, 3, 0, 0x12]);
-    let fault = |service| call_fault(service, 3, &bytes, &[]);
-    assert_eq!([Snps, Fragments].map(fault), [refusal(8, 2); 2]);
-    assert_eq!([Unpack, Check, ConflictCounts, Corrections].map(fault), [None; 4]);
-    let (matrix, answers) = answers(&["AB-", "-AB", "B-A"]);
+    assert_eq!(bytes[32..41], [11, 0, 0, 0, 0, 0, 3, 0, 0x12]);
+    assert_eq!(TAKING_HOLES.map(|service| call_fault(service, 3, &bytes, &[])), [None; 4]);
+    assert_eq!([Snps, Fragments].map(|service| call_fault(service, 3, &bytes, &[])), [refusal(8, 1); 2]);
+    let (matrix, answers) = answers(&["AB-", "B-A", "-AB"]);
     assert_eq!(matrix.rows, Matrix::read(&bytes, 3).rows);
     assert_eq!(listing::accepted(&matrix, &answers), TRIANGLE_LISTING);
     let corrected = brute::corrected(&matrix, &answers.corrections.expect("shallow").sides);
-    assert_eq!(corrected.rows, [[1, 1, 0], [0, 1, 2], [2, 0, 1]]);
+    assert_eq!(corrected.rows, [[1, 2, 0], [1, 0, 1], [0, 1, 2]]);
+}
+
+/// The triangle as it stood before the order of records: 8 comes before 13 where there is an 8.
+#[test]
+fn the_gapped_triangle_out_of_order() {
+    let bytes = unordered_triangle();
+    assert_eq!(TAKING_HOLES.map(|service| call_fault(service, 3, &bytes, &[])), [refusal(13, 2); 4]);
+    assert_eq!([Snps, Fragments].map(|service| call_fault(service, 3, &bytes, &[])), [refusal(8, 2); 2]);
+    assert_eq!(pack_fault(3, &[1, 2, 0, 0, 1, 2, 2, 0, 1], &[10, 11, 12], 96), refusal(13, 2));
+    assert_eq!(expected::text(&expected::outcome(&bytes).expect("settled")), UNORDERED_LISTING);
+    assert_eq!(in_order(&bytes), [record(10, 0, &[1, 2]), record(12, 0, &[2, 0, 1]), record(11, 1, &[1, 2])].concat());
+}
+
+/// The one outcome of every service that tests records, for gapless fragments that keep every rule but 9 and 13: from a
+/// table, and from cells by pack.
+fn of_every_service(fragments: &[(u32, &str)]) -> Option<Refusal> {
+    let bytes: Vec<u8> = fragments.iter().flat_map(|&(tag, fragment)| fragment_record(tag, fragment)).collect();
+    let n = fragments[0].1.len();
+    let tags: Vec<u32> = fragments.iter().map(|&(tag, _)| tag).collect();
+    let cells = Matrix::read(&bytes, n).rows.concat();
+    let packed = pack_fault(n, &cells, &tags, bytes.len());
+    assert_eq!(Service::ON_TABLES.map(|service| call_fault(service, n, &bytes, &[])), [packed; 6]);
+    packed
+}
+
+#[test]
+fn records_in_order() {
+    assert_eq!(of_every_service(&[(1, "A"), (2, "A"), (9, "B")]), None);
+    assert_eq!(of_every_service(&[(2, "A-"), (1, "-A")]), None);
+    assert_eq!(of_every_service(&[(9, "AA-"), (1, "-A-"), (5, "-AA"), (0, "--A")]), None);
+    assert_eq!(
+        of_every_service(&[(255, "A"), (256, "A"), (0x7fff_ffff, "A"), (0x8000_0000, "A"), (u32::MAX, "A")]),
+        None
+    );
+}
+
+/// Fragments without calls stand by tag among those that start at column 0.
+#[test]
+fn fragments_without_calls_in_order() {
+    assert_eq!(of_every_service(&[(1, "--"), (2, "A-"), (3, "--"), (4, "AA"), (0, "-A")]), None);
+    assert_eq!(of_every_service(&[(2, "A-"), (1, "--")]), refusal(13, 1));
+    assert_eq!(of_every_service(&[(2, "--"), (1, "A-")]), refusal(13, 1));
+    assert_eq!(of_every_service(&[(2, "--"), (1, "--")]), refusal(13, 1));
+    assert_eq!(of_every_service(&[(1, "-A"), (2, "--")]), refusal(13, 1));
+}
+
+#[test]
+fn records_out_of_order() {
+    assert_eq!(of_every_service(&[(2, "A"), (1, "B")]), refusal(13, 1));
+    assert_eq!(of_every_service(&[(1, "-A"), (2, "A-")]), refusal(13, 1));
+    assert_eq!(of_every_service(&[(2, "-A"), (1, "A-")]), refusal(13, 1));
+    assert_eq!(of_every_service(&[(256, "A"), (255, "A")]), refusal(13, 1));
+    assert_eq!(of_every_service(&[(0x8000_0000, "A"), (0x7fff_ffff, "A")]), refusal(13, 1));
+    // after record 0, but not after the one before
+    assert_eq!(of_every_service(&[(1, "A--"), (2, "--A"), (3, "-A-")]), refusal(13, 2));
+    assert_eq!(of_every_service(&[(1, "A"), (3, "A"), (2, "A")]), refusal(13, 2));
+    // several: the first
+    assert_eq!(of_every_service(&[(1, "A--"), (4, "--A"), (3, "-A-"), (2, "A--")]), refusal(13, 2));
+}
+
+/// The tag of an earlier record is 9, in order or not.
+#[test]
+fn a_tag_twice_before_the_order() {
+    assert_eq!(of_every_service(&[(1, "A"), (1, "A")]), refusal(9, 1));
+    assert_eq!(of_every_service(&[(1, "-A"), (1, "A-")]), refusal(9, 1));
+    assert_eq!(of_every_service(&[(1, "A"), (3, "A"), (1, "A")]), refusal(9, 2));
+    assert_eq!(of_every_service(&[(3, "A"), (1, "A"), (1, "A")]), refusal(13, 1));
+    assert_eq!(of_every_service(&[(1, "A"), (1, "A"), (0, "A")]), refusal(9, 1));
+}
+
+/// Rule 13 is the last of a record, and comes before every rule of the next. For pack it is the last of a fragment.
+#[test]
+fn the_order_among_other_faults() {
+    let fault = |n: usize, records: &[[u8; RECORD]]| {
+        let [check, snps] = [Check, Snps].map(|service| call_fault(service, n, &records.concat(), &[]));
+        (check, snps)
+    };
+    let (first, second) = (record(1, 2, &[1]), record(2, 0, &[1]));
+    let mut stray = second;
+    stray[7] = 1;
+    let unknown = record(3, 0, &[3]);
+    assert_eq!(fault(3, &[first, record(2, 1, &[])]), (refusal(4, 1), refusal(4, 1)));
+    assert_eq!(fault(3, &[first, stray]), (refusal(5, 1), refusal(5, 1)));
+    assert_eq!(fault(3, &[first, unknown]), (refusal(6, 1), refusal(6, 1)));
+    assert_eq!(fault(3, &[first, record(2, 0, &[1, 0])]), (refusal(7, 1), refusal(7, 1)));
+    assert_eq!(fault(3, &[first, record(2, 0, &[1, 0, 1])]), (refusal(13, 1), refusal(8, 1)));
+    assert_eq!(fault(3, &[first, record(1, 0, &[1, 0, 1])]), (refusal(9, 1), refusal(8, 1)));
+    assert_eq!(fault(3, &[first, second, unknown]), (refusal(13, 1), refusal(13, 1)));
+    assert_eq!(fault(3, &[unknown, first, second]), (refusal(6, 0), refusal(6, 0)));
+    assert_eq!(fault(2, &[first, second]), (refusal(4, 0), refusal(4, 0)));
+    assert_eq!(fault(129, &[first, second]), (refusal(3, 0), refusal(3, 0)));
+    let answered = |length: usize| call_fault(Check, 3, &[first, second].concat(), &[(Answer, length)]);
+    assert_eq!((answered(13), answered(12)), (refusal(13, 1), refusal(11, 0)));
+    assert_eq!(fault_in_any_order(Check, 3, &[first, second].concat()), None);
+    assert_eq!(fault_in_any_order(Check, 3, &[first, second, unknown].concat()), refusal(6, 2));
 }
 
 /// By hand: a far mate parts two fragments, joins two blocks, and is corrected.
@@ -171,8 +275,8 @@ fn judged_by_pairs_of_columns() {
         let matrix = matrix(fragments);
         (gaps::error_free_by_pairs(&matrix), brute::check(&matrix).is_some())
     };
-    assert_eq!(judged(&["AB-", "-AB", "B-A"]), (true, false));
-    assert_eq!(judged(&["AB--", "-AB-", "--AB", "B--A"]), (true, true));
+    assert_eq!(judged(&["AB-", "B-A", "-AB"]), (true, false));
+    assert_eq!(judged(&["AB--", "B--A", "-AB-", "--AB"]), (true, true));
     assert_eq!(judged(&["AA-", "BAA", "-BB"]), (false, false));
     assert_eq!(judged(&["A-A", "A-B", "B-A"]), (false, false));
 }
@@ -316,17 +420,22 @@ fn sizes_of_cells() {
 #[test]
 fn faults_of_cells() {
     let fault = |cells: &[u8], tags: &[u32]| pack_fault(cells.len() / tags.len(), cells, tags, RECORD * tags.len());
-    assert_eq!(fault(&[0, 1, 2, 0, 0, 0], &[7, 8]), None);
-    assert_eq!(fault(&[0, 1, 2, 1, 0, 2], &[7, 8]), None);
+    assert_eq!(fault(&[0, 0, 0, 0, 1, 2], &[7, 8]), None);
+    assert_eq!(fault(&[1, 0, 2, 0, 1, 2], &[7, 8]), None);
+    assert_eq!(fault(&[0, 1, 2, 0, 0, 0], &[7, 8]), refusal(13, 1));
+    assert_eq!(fault(&[0, 1, 2, 1, 0, 2], &[7, 8]), refusal(13, 1));
     assert_eq!(fault(&[0, 1, 2, 1, 0, 3], &[7, 8]), refusal(6, 1));
     assert_eq!(fault(&[0, 1, 2, 1, 0, 2], &[7, 7]), refusal(9, 1));
     assert_eq!(fault(&[0, 1, 2, 1, 1, 2], &[7, 7]), refusal(9, 1));
+    assert_eq!(fault(&[0, 1, 1, 0, 0, 3], &[7, 8, 9]), refusal(13, 1));
+    assert_eq!(pack_fault_in_any_order(2, &[0, 1, 1, 0, 0, 3], &[7, 8, 9]), refusal(6, 2));
     let wide = |calls: usize| [vec![0; 9], vec![1; calls], vec![0; 9]].concat();
     assert_eq!(fault(&wide(96), &[7]), None);
     assert_eq!(fault(&wide(97), &[7]), refusal(4, 0));
     let far = |between: usize| [vec![1], vec![0; between], vec![1]].concat();
     assert_eq!(fault(&far(94), &[7]), None);
     assert_eq!(fault(&far(95), &[7]), refusal(4, 0));
+    assert_eq!(fault(&[&[0, 1][..], &[0; 95], &far(95)].concat(), &[7, 8]), refusal(4, 1));
 }
 
 #[test]
@@ -339,9 +448,9 @@ fn the_stretch_of_a_row() {
 
 #[test]
 fn the_first_gapped_fragment() {
-    assert_eq!(gapped(&matrix(&["AB-", "-AB", "B-A"])), refusal(8, 2));
+    assert_eq!(gapped(&matrix(&["AB-", "B-A", "-AB"])), refusal(8, 1));
     assert_eq!(gapped(&matrix(&["A-B", "A-A"])), refusal(8, 0));
-    assert_eq!(gapped(&matrix(&["-A-", "---", "AB-"])), None);
+    assert_eq!(gapped(&matrix(&["---", "AB-", "-A-"])), None);
 }
 
 #[test]
@@ -352,6 +461,87 @@ fn places_of_a_tag() {
     assert_eq!(places(5, 95), [0]);
     assert_eq!(places(7, 96), []);
     assert_eq!(places(5, 31), []);
+}
+
+/// What a run must have seen of records out of order: the places, and the same of pack's fragments.
+#[test]
+fn places_out_of_order() {
+    let found = |fragments: &[(u32, &str)]| {
+        let bytes: Vec<u8> = fragments.iter().flat_map(|&(tag, fragment)| fragment_record(tag, fragment)).collect();
+        let (n, tags) = (fragments[0].1.len(), fragments.iter().map(|&(tag, _)| tag).collect::<Vec<u32>>());
+        let of_cells = keys_of_cells(n, &Matrix::read(&bytes, n).rows.concat(), &tags);
+        let places = falls(&keys_of_table(&bytes)).collect::<Vec<_>>();
+        assert_eq!(falls(&of_cells).collect::<Vec<_>>(), places);
+        places
+    };
+    assert_eq!(found(&[(1, "A-"), (2, "A-"), (0, "-A")]), []);
+    assert_eq!(found(&[(1, "A-"), (1, "A-")]), []);
+    assert_eq!(found(&[(3, "-A"), (2, "--"), (1, "A-"), (4, "A-"), (3, "A-")]), [1, 2, 4]);
+}
+
+/// What a run must have seen goes with what each comparison can do, of tables and of pack.
+#[test]
+fn demands_of_other_orders() {
+    let can = OTHERS.each_ref().map(|other| (other.name, [other.misses, other.makes_up]));
+    let demanded = |of: fn(&OtherOrder) -> [usize; 2]| {
+        OTHER_ORDERS.each_ref().map(|other| (other.name, of(other).map(|least| least > 0)))
+    };
+    assert_eq!(demanded(|other| other.of_tables), can);
+    assert_eq!(demanded(|other| other.of_pack), can);
+}
+
+/// The comparisons that are not the order of records, as those that refuse a table and those that do not.
+fn judged_by_others(records: &[[u8; RECORD]]) -> [Vec<&'static str>; 2] {
+    let keys = keys_of_table(&records.concat());
+    let (refusing, taking): (Vec<&Other>, Vec<&Other>) = OTHERS.iter().partition(|other| other.first(&keys).is_some());
+    [refusing, taking].map(|others| others.iter().map(|other| other.name).collect())
+}
+
+#[test]
+fn tables_that_other_orders_refuse() {
+    let refusing = |records: &[[u8; RECORD]]| judged_by_others(records)[0].join(", ");
+    let at = |start: usize, tag: u32| record(tag, start, &[1]);
+    let bare = |tag: u32| record(tag, 0, &[]);
+    assert_eq!(refusing(&[at(0, 1), at(1, 2)]), "");
+    assert_eq!(refusing(&[at(0, 2), at(1, 1)]), "by start or tag, by tag alone");
+    assert_eq!(refusing(&[at(0, 1), at(0, 2)]), "by starts that differ");
+    let by_byte = "by starts that differ, by the lowest byte of tags, by the bytes of tags in turn";
+    assert_eq!(refusing(&[at(0, 255), at(0, 256)]), by_byte);
+    assert_eq!(refusing(&[at(0, 1), at(0, 0x8000_0002)]), "by starts that differ, by tags with a sign");
+    assert_eq!(refusing(&[bare(1), at(0, 2)]), "by starts that differ, without calls last");
+    let of_bare = "by start or tag, by tag alone, without calls last, without calls by tag alone";
+    assert_eq!(refusing(&[bare(2), at(1, 1)]), of_bare);
+}
+
+#[test]
+fn tables_out_of_order_that_others_take() {
+    let taking = |records: &[[u8; RECORD]]| judged_by_others(records)[1].join(", ");
+    let at = |start: usize, tag: u32| record(tag, start, &[1]);
+    let bare = |tag: u32| record(tag, 0, &[]);
+    assert_eq!(taking(&[at(1, 2), at(0, 1)]), "none");
+    assert_eq!(taking(&[at(1, 1), at(0, 2)]), "none, by start and tag, both, by tag alone");
+    let by_tag = "none, by start alone, by start and tag, both";
+    assert_eq!(taking(&[at(0, 2), at(0, 1)]), format!("{by_tag}, by the highest byte of tags"));
+    let by_byte = "by the highest byte of tags, by the lowest byte of tags, by the bytes of tags in turn";
+    assert_eq!(taking(&[at(0, 256), at(0, 255)]), format!("{by_tag}, {by_byte}"));
+    assert_eq!(taking(&[at(0, 0x8000_0002), at(0, 1)]), format!("{by_tag}, by tags with a sign"));
+    assert_eq!(taking(&[at(0, 1), at(2, 3), at(1, 2)]), "none, with record 0");
+    let bare_by_start = "of fragments with calls, without calls by start alone, without calls last";
+    assert_eq!(taking(&[at(0, 2), bare(1)]), format!("{by_tag}, by the highest byte of tags, {bare_by_start}"));
+    let bare_by_tag = "by tag alone, without calls last, without calls by tag alone";
+    let both = "none, by start and tag, both, of fragments with calls";
+    assert_eq!(taking(&[at(1, 1), bare(2)]), format!("{both}, {bare_by_tag}"));
+}
+
+/// Every kind that is not named for it makes its tables in order, but for those that have too many records.
+#[test]
+fn kinds_in_order() {
+    for kind in generate::kinds() {
+        let tables = (0..kind.tables).map(|index| kind.table(&mut Rng::for_table(1, index)));
+        let few = tables.filter(|table| table.len() <= RECORD * MOST_FRAGMENTS);
+        let out_of_order = few.filter(|table| falls(&keys_of_table(table)).next().is_some()).count();
+        assert_eq!(out_of_order > 0, kind.name.starts_with("out of order"), "{}", kind.name);
+    }
 }
 
 /// Columns without calls change no answer but by holes at the end, whichever method gives it.

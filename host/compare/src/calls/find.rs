@@ -4,6 +4,7 @@ use super::{compared, expected};
 use crate::guarded::Guarded;
 use crate::library::{Buffers, Call, Library};
 use crate::listing::hexadecimal;
+use crate::order::{falls, keys_of_table};
 use crate::record::{places_of, record, set_tag, tag, whole_records, RECORD};
 use crate::rng::Rng;
 use crate::rules::MOST_FRAGMENTS;
@@ -65,4 +66,6 @@ fn count(table: &[u8], wanted: u32, counts: &mut Counts) {
     let ragged = !table.len().is_multiple_of(RECORD);
     counts.add(Seen::FoundInRagged, (ragged && !places.is_empty()) as usize);
     counts.add(Seen::FoundPastMost, places.first().is_some_and(|&first| first >= MOST_FRAGMENTS) as usize);
+    let past_fall = |&first: &usize| falls(&keys_of_table(table)).next().is_some_and(|fall| first >= fall);
+    counts.add(Seen::FoundOutOfOrder, places.first().is_some_and(past_fall) as usize);
 }

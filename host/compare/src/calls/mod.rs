@@ -2,6 +2,7 @@
 
 mod expected;
 mod find;
+mod order;
 mod pack;
 pub mod round_trips;
 mod sizes;
@@ -26,14 +27,10 @@ pub struct Table<'a> {
     pub outcome: &'a TableOutcome,
 }
 
-/// The services that are called with a table and a column count.
-const ON_TABLES: [Service; 6] =
-    [Service::Unpack, Service::Check, Service::ConflictCounts, Service::Snps, Service::Fragments, Service::Corrections];
-
 /// Every service: right calls and wrong ones, and both round trips. Pack has cells of its own.
 pub fn all(library: Library, table: &Table, cells: &Cells, rng: &mut Rng) -> Result<Counts, String> {
     let mut counts = Counts::default();
-    for service in ON_TABLES {
+    for service in Service::ON_TABLES {
         for sizes in sizes::of_calls(service, column_count(table.bytes), table.bytes.len() / RECORD, rng) {
             let call = on_table(service, table.bytes, sizes, rng);
             let expected = expected::of_call(&call, table.outcome);
@@ -60,7 +57,7 @@ fn has_gaps(table: &Table) -> bool {
     Matrix::read(table.bytes, column_count(table.bytes)).is_gapped()
 }
 
-/// What S's or F's refusal 8 shows: check accepts, or it refuses that record by 9, or a later one.
+/// What S's or F's refusal 8 shows: check accepts, or it refuses that record by 9 or 13, or a later one.
 fn gap(call: &Call) -> Seen {
     match table_fault(call.number, call.lent.table.lent()) {
         None => Seen::GapAlone(call.service),
@@ -88,6 +85,7 @@ fn compared(library: Library, mut call: Call, expected: Expected, counts: &mut C
         counts.add(Seen::Returned(call.service, verdict(call.service, outcome)), 1);
         let long_work = matches!(outcome, Outcome::Accepted(_)) && call.lent.work.lent().len() > LEAST_WORK;
         counts.add(Seen::LongWork(call.service), long_work as usize);
+        order::count(&call, outcome, counts);
     }
     Ok(())
 }

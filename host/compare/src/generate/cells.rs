@@ -1,7 +1,8 @@
-//! Random cells and tags for pack, with holes between calls and without: most keep its rules, the others have a fault or
-//! several.
+//! Random cells and tags for pack, with holes between calls and without: most keep its rules, the others are out of order, or
+//! have another fault or several.
 
-use super::rows::{letter, letters, place, punch, tags};
+use super::rows::{letter, letters, place, punch, tagged, trimmed, Fragment, Row};
+use super::unordered::disorder;
 use crate::record::{Matrix, CELLS, HOLE};
 use crate::rng::Rng;
 use crate::rules::{MOST_COLUMNS, MOST_FRAGMENTS};
@@ -31,14 +32,33 @@ const ROW_CHANGES: [fn(&mut Rng, &mut [u8]); 4] = [hole, unknown_call, another_c
 pub fn cells(rng: &mut Rng) -> Cells {
     let (m, n) = (size(rng, MOST_FRAGMENTS), size(rng, MOST_COLUMNS));
     let gapped = rng.pick(&[0, 50, 100]);
-    let mut rows: Vec<Vec<u8>> = (0..m).map(|_| row(rng, n, gapped)).collect();
-    let mut tags = tags(rng, m);
+    let rows = (0..m).map(|_| row(rng, n, gapped)).collect();
+    let mut fragments = tagged(rng, rows);
     if m > 0 && rng.chance(50) {
         for _ in 0..rng.between(1, 3) {
-            change(rng, &mut rows, &mut tags);
+            let any = rng.below(m);
+            change(rng, n, &mut fragments, any);
         }
+        fragments.sort();
     }
-    Cells { n, cells: rows.concat(), tags }
+    if m > 0 && rng.chance(15) {
+        disorder(rng, &mut fragments);
+        let first = first_out_of_order(&fragments);
+        first.filter(|_| rng.chance(60)).into_iter().for_each(|place| change(rng, n, &mut fragments, place));
+    }
+    let cells = fragments.iter().flat_map(|fragment| widened(fragment, n)).collect();
+    Cells { n, cells, tags: fragments.iter().map(|fragment| fragment.tag).collect() }
+}
+
+fn first_out_of_order(fragments: &[Fragment]) -> Option<usize> {
+    (1..fragments.len()).find(|&place| fragments[place] < fragments[place - 1])
+}
+
+/// The cells of a fragment in all columns.
+fn widened(fragment: &Fragment, n: usize) -> Vec<u8> {
+    let mut row = vec![HOLE; n];
+    row[fragment.start..fragment.start + fragment.cells.len()].copy_from_slice(&fragment.cells);
+    row
 }
 
 /// Mostly small, at times around the most that is lawful.
@@ -51,27 +71,28 @@ fn size(rng: &mut Rng, most: usize) -> usize {
 }
 
 /// A row with one stretch of calls, or none; with holes between the calls in `gapped` of 100 cases.
-fn row(rng: &mut Rng, n: usize, gapped: usize) -> Vec<u8> {
-    let mut row = vec![HOLE; n];
-    if n > 0 && rng.chance(90) {
-        let longest = rng.pick(&[4, CELLS, CELLS]);
-        let (start, span) = place(rng, n, longest);
-        let stretch = &mut row[start..start + span];
-        stretch.copy_from_slice(&letters(rng, span));
-        if span > 2 && rng.chance(gapped) {
-            punch(rng, stretch);
-        }
+fn row(rng: &mut Rng, n: usize, gapped: usize) -> Row {
+    if n == 0 || rng.chance(10) {
+        return (0, Vec::new());
     }
-    row
+    let longest = rng.pick(&[4, CELLS, CELLS]);
+    let (start, span) = place(rng, n, longest);
+    let mut cells = letters(rng, span);
+    if span > 2 && rng.chance(gapped) {
+        punch(rng, &mut cells);
+    }
+    (start, cells)
 }
 
 /// A tag that another fragment has, or another row.
-fn change(rng: &mut Rng, rows: &mut [Vec<u8>], tags: &mut [u32]) {
-    let f = rng.below(rows.len());
+fn change(rng: &mut Rng, n: usize, fragments: &mut [Fragment], place: usize) {
     if rng.chance(20) {
-        tags[f] = rng.pick(tags);
-    } else if !rows[f].is_empty() {
-        rng.pick(&ROW_CHANGES)(rng, &mut rows[f]);
+        fragments[place].tag = fragments[rng.below(fragments.len())].tag;
+    } else if n > 0 {
+        let mut row = widened(&fragments[place], n);
+        rng.pick(&ROW_CHANGES)(rng, &mut row);
+        let (start, cells) = trimmed(&row);
+        fragments[place] = Fragment { start, cells, ..fragments[place] };
     }
 }
 

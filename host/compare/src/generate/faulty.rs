@@ -1,11 +1,12 @@
-//! Tables with the faults that rules 1 to 9 refuse, one at a time and several at once. A hole between two calls is a fault to
-//! S and F alone.
+//! Tables with the faults that rules 1 to 9 refuse, one at a time and several at once, their records in order. A hole between
+//! two calls is a fault to S and F alone.
 
 use super::mates::gapped_rows;
 use super::rows::{table, Row};
 use super::small::{noisy_rows, uniform_rows};
-use crate::record::{record, set_cell, set_start, span, tag, CELLS, HOLE, RECORD};
+use crate::record::{in_order, record, set_cell, set_start, span, tag, CELLS, HOLE, RECORD};
 use crate::rng::Rng;
+use crate::rules::MOST_FRAGMENTS;
 
 /// Faults of the table as a whole, or made by a record more or less.
 const TABLE_FAULTS: [fn(&mut Rng, &mut Vec<u8>); 3] = [ragged, too_many_fragments, without_span];
@@ -17,7 +18,7 @@ const RECORD_FAULTS: [fn(&mut Rng, &mut [u8]); 9] =
 pub fn one(rng: &mut Rng) -> Vec<u8> {
     let mut bytes = base(rng);
     fault(rng, &mut bytes, 25);
-    bytes
+    in_order(&bytes)
 }
 
 pub fn several(rng: &mut Rng) -> Vec<u8> {
@@ -25,7 +26,7 @@ pub fn several(rng: &mut Rng) -> Vec<u8> {
     for _ in 0..rng.between(2, 5) {
         fault(rng, &mut bytes, 10);
     }
-    bytes
+    in_order(&bytes)
 }
 
 /// One fault, or several, beside holes between calls: S and F refuse the first record that has either.
@@ -35,11 +36,11 @@ pub fn of_mates(rng: &mut Rng) -> Vec<u8> {
     for _ in 0..rng.between(1, 3) {
         fault(rng, &mut bytes, 5);
     }
-    bytes
+    in_order(&bytes)
 }
 
-/// One fault, of the table as a whole in `whole` of 100 cases.
-fn fault(rng: &mut Rng, bytes: &mut Vec<u8>, whole: usize) {
+/// One fault, of the table as a whole in `whole` of 100 cases. It may put records out of order.
+pub fn fault(rng: &mut Rng, bytes: &mut Vec<u8>, whole: usize) {
     let records = bytes.len() / RECORD;
     if records == 0 || rng.chance(whole) {
         rng.pick(&TABLE_FAULTS)(rng, bytes);
@@ -47,12 +48,16 @@ fn fault(rng: &mut Rng, bytes: &mut Vec<u8>, whole: usize) {
         tag_twice(rng, bytes);
     } else {
         let place = RECORD * rng.below(records);
-        rng.pick(&RECORD_FAULTS)(rng, &mut bytes[place..place + RECORD]);
+        fault_of_record(rng, &mut bytes[place..place + RECORD]);
     }
 }
 
+pub fn fault_of_record(rng: &mut Rng, record: &mut [u8]) {
+    rng.pick(&RECORD_FAULTS)(rng, record);
+}
+
 /// Lengths around 128 and 129 records and around the bytes that the listing reads. Some records past them would change
-/// the column count, if they were read.
+/// the column count, if they were read. Up to 128 records are in order.
 pub fn long(rng: &mut Rng) -> Vec<u8> {
     let length = match rng.below(4) {
         0 => rng.pick(&[4064, 4095, 4096, 4097, 4127, 4128, 4129, 4159, 4160, 4161]),
@@ -73,7 +78,11 @@ pub fn long(rng: &mut Rng) -> Vec<u8> {
         let place = rng.pick(&[any, last, last.min(127), last.min(128), last.min(129)]);
         set_start(&mut bytes[RECORD * place..], rng.pick(&[100, 127, 128, 600, u16::MAX]));
     }
-    bytes
+    if length <= RECORD * MOST_FRAGMENTS {
+        in_order(&bytes)
+    } else {
+        bytes
+    }
 }
 
 /// Records whose fields are near the lawful ones, with random cells.
@@ -94,7 +103,7 @@ pub fn random_fields(rng: &mut Rng) -> Vec<u8> {
         }
         bytes.extend(fields);
     }
-    bytes
+    in_order(&bytes)
 }
 
 /// A lawful table with at least one record.
@@ -103,7 +112,7 @@ fn base(rng: &mut Rng) -> Vec<u8> {
     table(rng, rows)
 }
 
-fn base_rows(rng: &mut Rng) -> Vec<Row> {
+pub fn base_rows(rng: &mut Rng) -> Vec<Row> {
     let mut rows = if rng.chance(50) { uniform_rows(rng, 8, 8) } else { noisy_rows(rng, 8, 8) };
     if rng.chance(25) {
         rows.push((0, Vec::new()));

@@ -6,6 +6,7 @@ mod large;
 mod mates;
 mod rows;
 mod small;
+mod unordered;
 
 use crate::rng::Rng;
 
@@ -45,6 +46,8 @@ pub fn kinds() -> Vec<Kind> {
         kind("mates and faults", 800, faulty::of_mates),
         kind("long or ragged", 400, faulty::long),
         kind("random fields", 600, faulty::random_fields),
+        kind("out of order", 1500, unordered::table),
+        kind("out of order, faulty", 1500, unordered::with_faults),
         kind("shifted", 300, large::shifted),
         kind("few, long", 200, large::few_long),
         kind("many, short", 200, large::many_short),

@@ -1,4 +1,4 @@
-//! Fragments before they have tags and bytes, and the shapes that the kinds of tables share.
+//! Fragments before they have bytes, without tags and with them, and the shapes that the kinds of tables share.
 
 use crate::record::{record, stretch, A, B, HOLE};
 use crate::rng::Rng;
@@ -12,19 +12,40 @@ pub fn trimmed(cells: &[u8]) -> Row {
     (stretch(cells).start, cells[stretch(cells)].to_vec())
 }
 
-/// The bytes of a table with these fragments. Most tables have their records in random order, some in the order given.
-pub fn table(rng: &mut Rng, mut rows: Vec<Row>) -> Vec<u8> {
+/// A fragment with its tag. Fragments compare by start and then by tag, as records stand in order.
+#[derive(Clone, PartialEq, Eq, PartialOrd, Ord)]
+pub struct Fragment {
+    pub start: usize,
+    pub tag: u32,
+    pub cells: Vec<u8>,
+}
+
+/// The bytes of a table with these fragments in order.
+pub fn table(rng: &mut Rng, rows: Vec<Row>) -> Vec<u8> {
+    records(&tagged(rng, rows))
+}
+
+pub fn records(fragments: &[Fragment]) -> Vec<u8> {
+    fragments.iter().flat_map(|fragment| record(fragment.tag, fragment.start, &fragment.cells)).collect()
+}
+
+/// The fragments with tags, in order. At one start they stand in any order, or where tags are counted at times in the order
+/// given.
+pub fn tagged(rng: &mut Rng, mut rows: Vec<Row>) -> Vec<Fragment> {
     if rng.chance(75) {
         rng.shuffle(&mut rows);
     }
     let tags = tags(rng, rows.len());
-    rows.iter().zip(tags).flat_map(|((start, cells), tag)| record(tag, *start, cells)).collect()
+    let fragment = |((start, cells), tag): (Row, u32)| Fragment { start, tag, cells };
+    let mut fragments: Vec<Fragment> = rows.into_iter().zip(tags).map(fragment).collect();
+    fragments.sort();
+    fragments
 }
 
-/// Different tags: counted, random, or different in one byte only.
-pub fn tags(rng: &mut Rng, count: usize) -> Vec<u32> {
+/// Different tags: counted, random, different in one byte only, or rising by a higher byte while the lowest falls.
+fn tags(rng: &mut Rng, count: usize) -> Vec<u32> {
     let base = rng.next() as u32;
-    let style = rng.below(6);
+    let style = rng.below(9);
     let mut used = HashSet::new();
     let mut tags = Vec::new();
     while tags.len() < count {
@@ -32,7 +53,8 @@ pub fn tags(rng: &mut Rng, count: usize) -> Vec<u32> {
         let tag = match style {
             0 => i,
             1 => rng.next() as u32,
-            byte => base.wrapping_add(i << (8 * (byte - 2))),
+            2..=5 => base.wrapping_add(i << (8 * (style - 2))),
+            _ => i << (8 * (style - 5)) | (255 - i),
         };
         if used.insert(tag) {
             tags.push(tag);

@@ -3,6 +3,7 @@
 
 mod wrong_gaps;
 mod wrong_libraries;
+mod wrong_order;
 
 use crate::answer::Answer;
 use crate::compare::{listing_says, same_text};
@@ -26,24 +27,32 @@ F 1 111 AA- BAA 120 0,0,-
 C 1 111 AAA -BB 112 0,0,0
 ";
 
-/// AB-, -AB, B-A: every two columns by themselves are error-free, and the three are not.
+/// AB-, B-A, -AB: every two columns by themselves are error-free, and the three are not.
 pub fn gapped_triangle() -> Vec<u8> {
-    [record(10, 0, &[A, B]), record(11, 1, &[A, B]), record(12, 0, &[B, HOLE, A])].concat()
+    [record(10, 0, &[A, B]), record(11, 0, &[B, HOLE, A]), record(12, 1, &[A, B])].concat()
 }
 
-/// By hand: on one side the three differ on every column; with sides 112 the first two do on column 1, where the B becomes A.
+/// By hand: on one side the three differ on every column; with sides 112 the first two do on column 0, where the B becomes A.
 pub const TRIANGLE_LISTING: &str = "\
 fragments 3 snps 3
 error-free no
-S refused 8 at 2
-F refused 8 at 2
-C 1 111 AAB B-A 112 0,0,0
+S refused 8 at 1
+F refused 8 at 1
+C 1 111 ABA -AB 112 0,0,0
 ";
+
+/// The same fragments as they stood while the order of records was free: AB-, -AB, B-A.
+pub fn unordered_triangle() -> Vec<u8> {
+    [record(10, 0, &[A, B]), record(11, 1, &[A, B]), record(12, 0, &[B, HOLE, A])].concat()
+}
+
+pub const UNORDERED_LISTING: &str = "refused 13 at 2\n";
 
 /// The number of wrong expectations, libraries, methods and counts, all noticed.
 pub fn run(listing: Option<&Path>) -> Result<usize, String> {
     let listings = wrong_listings(listing, &printed_table(), PRINTED_LISTING)?
-        + wrong_listings(listing, &gapped_triangle(), TRIANGLE_LISTING)?;
+        + wrong_listings(listing, &gapped_triangle(), TRIANGLE_LISTING)?
+        + wrong_listings(listing, &unordered_triangle(), UNORDERED_LISTING)?;
     Ok(listings + wrong_libraries::noticed()? + wrong_methods()? + too_little_seen(false)? + too_little_seen(true)?)
 }
 

@@ -1,8 +1,8 @@
 //! Libraries that are wrong in one way each. The linked one makes the call, and what it returned or left is then spoiled:
 //! a count, a refusal, an element of each buffer or beside it, work left dirty, other counts of conflicts, another part of
-//! the table, and whatever is wrong about holes (`wrong_gaps`).
+//! the table, and whatever is wrong about holes (`wrong_gaps`) and about the order of records (`wrong_order`).
 
-use super::{gapped_triangle, must_differ, printed_table, wrong_gaps};
+use super::{gapped_triangle, must_differ, printed_table, wrong_gaps, wrong_order};
 use crate::agree;
 use crate::calls::{self, round_trips, Table};
 use crate::counts::conflicts;
@@ -28,7 +28,8 @@ type Spoil = Box<dyn Fn(&mut Call, &mut Returned, Buffers) + Sync>;
 
 /// The number of wrong libraries, each noticed by the comparison that the linked one passes.
 pub fn noticed() -> Result<usize, String> {
-    compared(&proved, &all_tables())?;
+    let tables = tables_in_order();
+    compared(&proved, &tables)?;
     let mut all = wrong_outcomes();
     all.extend(Service::ALL.into_iter().flat_map(wrong_elements));
     all.extend(dirty_works());
@@ -40,8 +41,17 @@ pub fn noticed() -> Result<usize, String> {
     // without holes between calls none of these would be noticed
     of_gaps.iter().try_for_each(|wrong| compared(&wrong.library(), &gapless_tables()))?;
     all.extend(of_gaps);
-    all.iter().try_for_each(must_be_noticed)?;
-    Ok(all.len() + wrong_round_trips()?)
+    all.iter().try_for_each(|wrong| must_be_noticed(wrong, &tables))?;
+    Ok(all.len() + wrong_orders()? + wrong_round_trips()?)
+}
+
+fn wrong_orders() -> Result<usize, String> {
+    let (all, tables) = (wrong_order::all(), wrong_order::tables());
+    compared(&proved, &tables)?;
+    // where every comparison says the same none of these would be noticed
+    all.iter().try_for_each(|wrong| compared(&wrong.library(), &wrong_order::plain_tables()))?;
+    all.iter().try_for_each(|wrong| must_be_noticed(wrong, &tables))?;
+    Ok(all.len())
 }
 
 /// The calls of a run about some tables, and about the cells with each.
@@ -60,7 +70,7 @@ fn gapless_tables() -> Vec<(Vec<u8>, Cells)> {
     [pair, printed_table(), wide].map(|bytes| (bytes, printed_cells())).into()
 }
 
-fn all_tables() -> Vec<(Vec<u8>, Cells)> {
+fn tables_in_order() -> Vec<(Vec<u8>, Cells)> {
     let gapped = wrong_gaps::tables().map(|bytes| (bytes, triangle_cells()));
     gapless_tables().into_iter().chain(gapped).collect()
 }
@@ -70,12 +80,12 @@ fn printed_cells() -> Cells {
 }
 
 fn triangle_cells() -> Cells {
-    Cells { n: 3, cells: vec![1, 2, 0, 0, 1, 2, 2, 0, 1], tags: vec![10, 11, 12] }
+    Cells { n: 3, cells: vec![1, 2, 0, 2, 0, 1, 0, 1, 2], tags: vec![10, 11, 12] }
 }
 
-fn must_be_noticed(wrong: &Wrong) -> Result<(), String> {
+fn must_be_noticed(wrong: &Wrong, tables: &[(Vec<u8>, Cells)]) -> Result<(), String> {
     let name = wrong.service.name();
-    match compared(&wrong.library(), &all_tables()) {
+    match compared(&wrong.library(), tables) {
         Ok(()) => Err(format!("self-test: a wrong {name} passed: {:?}", wrong.said)),
         Err(difference) if difference.starts_with(name) && difference.contains(&wrong.said) => Ok(()),
         Err(difference) => Err(format!("self-test: a wrong {name} ({:?}) is reported as {difference}", wrong.said)),
@@ -131,8 +141,8 @@ fn wrong_outcomes() -> Vec<Wrong> {
 }
 
 /// Where to write in a room of some length with this part lent.
-type Place = fn(Range<usize>, usize) -> usize;
-const FIRST: Place = |lent, _| lent.start;
+pub type Place = fn(Range<usize>, usize) -> usize;
+pub const FIRST: Place = |lent, _| lent.start;
 const LAST: Place = |lent, _| lent.end - 1;
 /// The guards beside the buffer and farthest from it.
 const GUARDS: [Place; 4] = [|lent, _| lent.start - 1, |lent, _| lent.end, |_, _| 0, |_, length| length - 1];
@@ -143,18 +153,24 @@ fn wrong_elements(service: Service) -> Vec<Wrong> {
     let mut all = Vec::new();
     for buffer in service.buffers() {
         for &refused in outcomes {
-            all.extend([FIRST, LAST].map(|place| flipping(service, buffer, place, refused)));
-            all.extend(GUARDS.map(|place| flipping(service, buffer, place, refused)));
+            let places = [FIRST, LAST].into_iter().chain(GUARDS);
+            all.extend(places.map(|place| flipping(service, buffer, place, move |to| is_refusal(to) == refused)));
         }
     }
     all
 }
 
-/// Empty buffers are left alone, so that it is the element at the place that is noticed.
-fn flipping(service: Service, buffer: Buffer, place: Place, refused: bool) -> Wrong {
+/// An element changed on some of what is returned. Empty buffers are left alone, so that it is the element at the place that is
+/// noticed.
+pub fn flipping(
+    service: Service,
+    buffer: Buffer,
+    place: Place,
+    on: impl Fn(&Returned) -> bool + Sync + 'static,
+) -> Wrong {
     let wrong = Wrong::new(service, move |call, returned, _| {
         let room = call.lent.room_mut(buffer);
-        if is_refusal(returned) == refused && !room.lent_range().is_empty() {
+        if on(returned) && !room.lent_range().is_empty() {
             room.flip(place(room.lent_range(), room.length()));
         }
     });
@@ -232,7 +248,7 @@ fn counts_left() -> Vec<Wrong> {
 /// Counts cleared on each refusal, or only where a record is refused.
 fn counts_of_refused() -> Vec<Wrong> {
     type Numbers = fn(u8) -> bool;
-    let all: [Numbers; 2] = [|_| true, |number| (4..=9).contains(&number)];
+    let all: [Numbers; 2] = [|_| true, |number| matches!(number, 4..=9 | 13)];
     let cleared = |numbers: Numbers| {
         Wrong::new(Service::ConflictCounts, move |call, returned, _| {
             if matches!(returned, Returned::Outcome(Refused(number, _)) if numbers(*number)) {
@@ -273,7 +289,7 @@ fn wrong_parts() -> Vec<Wrong> {
 /// and far mates that get lost.
 fn wrong_round_trips() -> Result<usize, String> {
     let places = [(Service::Unpack, Buffer::Cells), (Service::Unpack, Buffer::Tags), (Service::Pack, Buffer::Table)];
-    let flipped = places.map(|(service, buffer)| flipping(service, buffer, FIRST, false));
+    let flipped = places.map(|(service, buffer)| flipping(service, buffer, FIRST, |returned| !is_refusal(returned)));
     let lost = [wrong_gaps::near_cells(), wrong_gaps::near_records()];
     let gapless = trips_noticed(&printed_table(), &printed_cells(), &flipped)?;
     let gapped = [&flipped[..], &lost].map(|wrong| trips_noticed(&gapped_triangle(), &triangle_cells(), wrong));
