@@ -10,7 +10,7 @@ use native.Mathlib.Omega.{arith}
 use lib.Dec.{T}
 use lib.ListN.{length, getD, take, drop, length-drop}
 use lib.Seq.{getD-take, getD-drop, length-take-le}
-use Rattle.below.specs.Below.{_<?_, _and_, isnt, anyBelow}
+use Rattle.below.specs.Below.{_<?_, _and_, anyBelow}
 use Rattle.records.specs.Writing.{callsStart, callsEnd, callsSpan, recordOf, codesOf, writable, rowOf}
 use Rattle.records.specs.Rules.{precedes, outOfOrder, earlierRules}
 use Rattle.below.proofs.BelowLaws.{both, isnt-<?, le-≤?, le-isnt, any-ext, none-at, none-of}
