@@ -301,9 +301,6 @@ risingTrials =
     -- falling start is 13, also where it is not under that of record 0
     ∷ keeps (pack 2 (cells "-A, A-") (1 ∷ 2 ∷ []) (nines 64)) (refused 13 1)
     ∷ keeps (pack 3 (cells "A--, --A, -A-") (1 ∷ 2 ∷ 3 ∷ []) (nines 96)) (refused 13 2)
-    -- a fragment without calls with a low tag after one with a high tag at start 0; one after a start of 1
-    ∷ keeps (pack 1 (cells "A, -") (2 ∷ 1 ∷ []) (nines 64)) (refused 13 1)
-    ∷ keeps (pack 2 (cells "-A, --") (1 ∷ 2 ∷ []) (nines 64)) (refused 13 1)
     -- 9 before 13, and 6 and 4 before both
     ∷ keeps (pack 2 (cells "-A, A-") (2 ∷ 2 ∷ []) (nines 64)) (refused 9 1)
     ∷ keeps (pack 1 (1 ∷ 3 ∷ []) (2 ∷ 1 ∷ []) (nines 64)) (refused 6 1)
@@ -312,9 +309,47 @@ risingTrials =
     ++ allKeep 1 (high ++ frag 1 0 1 1) (refused 13 1)
     ++ allKeep 2 (frag 1 1 1 1 ++ frag 2 0 1 1) (refused 13 1)
     ++ allKeep 3 (frag 1 0 1 1 ++ frag 2 2 1 1 ++ frag 3 1 1 1) (refused 13 2)
+    -- a stored fragment without calls with a low tag after one with a high tag at start 0; one after a start of 1
     ++ allKeep 1 (frag 2 0 1 1 ++ frag 1 0 0 0) (refused 13 1)
     ++ allKeep 2 (frag 1 1 1 1 ++ frag 2 0 0 0) (refused 13 1)
     ++ allKeep 2 (frag 2 1 1 1 ++ frag 2 0 1 1) (refused 9 1)
+
+-- fragments without calls (paper 02, T-12): pack refuses them, and stored ones are read as ever
+pub emptyTrials : List Trial
+unfolding callless far
+emptyTrials =
+    -- one among others, 17 at its place; of several the first
+    keeps (pack 2 (cells "--, AA, BB") (1 ∷ 2 ∷ 3 ∷ []) (nines 96)) (refused 17 0)
+    ∷ keeps (pack 2 (cells "AA, --, BB") (1 ∷ 2 ∷ 3 ∷ []) (nines 96)) (refused 17 1)
+    ∷ keeps (pack 2 (cells "AA, BB, --") (1 ∷ 2 ∷ 3 ∷ []) (nines 96)) (refused 17 2)
+    ∷ keeps (pack 2 (cells "AA, --, --") (1 ∷ 2 ∷ 3 ∷ []) (nines 96)) (refused 17 1)
+    -- one call is enough
+    ∷ accepts (pack 3 (cells "A--, -B-, --A") (1 ∷ 2 ∷ 3 ∷ []) (nines 96)) 3 (tableFrom 1 "A--, -B-, --A" ∷ [])
+    -- no columns: every fragment is without calls; no fragments: none is
+    ∷ keeps (pack 0 [] (1 ∷ 2 ∷ []) (nines 64)) (refused 17 0)
+    ∷ accepts (pack 0 [] [] []) 0 ([] ∷ [])
+    ∷ accepts (pack 128 [] [] []) 0 ([] ∷ [])
+    -- 11 before 17; 6 before 17 in a fragment, and 17 before the 6 of a later one
+    ∷ keeps (pack 1 (cells "-") (1 ∷ []) (nines 31)) (refused 11 0)
+    ∷ keeps (pack 2 (1 ∷ 1 ∷ 0 ∷ 3 ∷ []) (1 ∷ 2 ∷ []) (nines 64)) (refused 6 1)
+    ∷ keeps (pack 2 (0 ∷ 0 ∷ 0 ∷ 3 ∷ []) (1 ∷ 2 ∷ []) (nines 64)) (refused 17 0)
+    -- 17 and 4 cannot meet in a fragment: where no column is called the calls reach over none
+    ∷ keeps (pack 97 (replicate 97 0) (1 ∷ []) (nines 32)) (refused 17 0)
+    ∷ keeps (pack 97 (replicate 97 0 ++ far 1) (1 ∷ 2 ∷ []) (nines 64)) (refused 17 0)
+    ∷ keeps (pack 97 (far 1 ++ replicate 97 0) (1 ∷ 2 ∷ []) (nines 64)) (refused 4 0)
+    -- 17 before 9, before 13 by tag and by start, and before both; 9 and 13 of an earlier fragment before 17
+    ∷ keeps (pack 1 (cells "A, -") (1 ∷ 1 ∷ []) (nines 64)) (refused 17 1)
+    ∷ keeps (pack 1 (cells "A, -") (2 ∷ 1 ∷ []) (nines 64)) (refused 17 1)
+    ∷ keeps (pack 2 (cells "-A, --") (1 ∷ 2 ∷ []) (nines 64)) (refused 17 1)
+    ∷ keeps (pack 2 (cells "-A, --") (2 ∷ 2 ∷ []) (nines 64)) (refused 17 1)
+    ∷ keeps (pack 1 (cells "A, A, -") (1 ∷ 1 ∷ 2 ∷ []) (nines 96)) (refused 9 1)
+    ∷ keeps (pack 2 (cells "-A, A-, --") (1 ∷ 2 ∷ 3 ∷ []) (nines 96)) (refused 13 1)
+    -- a stored one is unpacked, alone too, and pack refuses what unpack gave; the other services' answers to it are tried above and below
+    ∷ accepts (unpackOn 2 callless) 4 (cells "--, AA, AB, BA" ∷ (1 ∷ 2 ∷ 3 ∷ 4 ∷ []) ∷ [])
+    ∷ keeps (pack 2 (cells "--, AA, AB, BA") (1 ∷ 2 ∷ 3 ∷ 4 ∷ []) (nines 128)) (refused 17 0)
+    ∷ accepts (unpackOn 0 (frag 1 0 0 0)) 1 ([] ∷ (1 ∷ []) ∷ [])
+    ∷ answers (checkOn 2 (frag 1 0 0 0)) "0 11 -- -- 1 0"
+    ∷ []
 
 -- how often two fragments disagree (paper 02, T-06)
 pub countTrials : List Trial
@@ -408,13 +443,11 @@ unpackTrials =
     ∷ keeps (unpackOn 2 (same ++ same)) (refused 9 2)
     ∷ []
 
--- pack, and its rules in order: 3, 1, 2, 11; then 6, 4, 9, and 13, which is tried above
+-- pack, and its rules in order: 3, 1, 2, 11; then 6, 4, 9, and 17 and 13, which are tried above
 pub packTrials : List Trial
 unfolding printed far
 packTrials =
     accepts (pack 3 (cells "AA-, BAA, -BB") (10 ∷ 11 ∷ 12 ∷ []) (nines 96)) 3 (printed ∷ [])
-    ∷ accepts (pack 2 (cells "--") (1 ∷ []) (nines 32)) 1 (tableFrom 1 "--" ∷ [])
-    ∷ accepts (pack 0 [] [] []) 0 ([] ∷ [])
     ∷ keeps (pack 129 (3 ∷ []) (1 ∷ []) (nines 32)) (refused 3 0)
     ∷ keeps (pack 2 (3 ∷ []) (nines 129) []) (refused 1 0)
     ∷ keeps (pack 0 [] (nines 129) []) (refused 2 0)
@@ -456,8 +489,8 @@ hostTrials =
 
 -- all trials but paper 01's
 pub otherTrials : List Trial
-unfolding aboveTrials answerTrials blockTrials pairTrials mateTrials risingTrials countTrials ruleTrials workTrials unpackTrials packTrials findTrials hostTrials
-otherTrials = aboveTrials ++ answerTrials ++ blockTrials ++ pairTrials ++ mateTrials ++ risingTrials ++ countTrials ++ ruleTrials ++ workTrials ++ unpackTrials ++ packTrials ++ findTrials ++ hostTrials
+unfolding aboveTrials answerTrials blockTrials pairTrials mateTrials risingTrials emptyTrials countTrials ruleTrials workTrials unpackTrials packTrials findTrials hostTrials
+otherTrials = aboveTrials ++ answerTrials ++ blockTrials ++ pairTrials ++ mateTrials ++ risingTrials ++ emptyTrials ++ countTrials ++ ruleTrials ++ workTrials ++ unpackTrials ++ packTrials ++ findTrials ++ hostTrials
 
 -- all of these
 pub others-pass : failing 0 otherTrials ≡ []

@@ -5,7 +5,7 @@ use mathlib.Core.List.{List, [], _∷_, _++_}
 use lib.ListN.{length, getD, replicate}
 use Rattle.below.specs.Below.{if_then_else_, _==_, _<?_, isnt, anyBelow, tab, concat}
 use Rattle.records.specs.Table.{fragments, partStart, partLength, position, unpackedCells, unpackedTags}
-use Rattle.records.specs.Writing.{callsStart, callsSpan, rowOf, packed}
+use Rattle.records.specs.Writing.{callsStart, callsSpan, withoutCalls, rowOf, packed}
 use Rattle.records.specs.Outcome.{Verdict, accepted, refused}
 use Rattle.records.specs.Rules.{Rule, rule, decide, earlierRules, sizeRules, tableRules, gaplessTableRules}
 use Rattle.conflicts.specs.Choice.{zeros, keepAll}
@@ -41,10 +41,13 @@ packedStart n cells i = callsStart n (rowOf n cells i)
 abbrev pub packedTag : List ℕ → ℕ → ℕ
 packedTag tags i = getD tags i 0
 
--- pack's fragment i: 6, "a cell over 2"; 4, "calls reach over more than 96 columns"; 9 and 13
+-- pack's fragment i: 6, "a cell over 2"; 17, "no call"; 4, "calls reach over more than 96 columns"; 9 and 13
 unfoldable pub fragmentRules : ℕ → List ℕ → List ℕ → ℕ → List Rule
 fragmentRules n cells tags i =
-    rule 6 i (anyBelow n (λ c. 2 <? rowOf n cells i c)) ∷ rule 4 i (96 <? callsSpan n (rowOf n cells i)) ∷ earlierRules (packedStart n cells) (packedTag tags) i
+    rule 6 i (anyBelow n (λ c. 2 <? rowOf n cells i c))
+    ∷ rule 17 i (withoutCalls n (rowOf n cells i))
+    ∷ rule 4 i (96 <? callsSpan n (rowOf n cells i))
+    ∷ earlierRules (packedStart n cells) (packedTag tags) i
 
 -- ---- the rules of each service
 

@@ -163,7 +163,7 @@ module _ {base : ℕ} (wide : 128 < base) where
 
   fragment-named : (n : ℕ) (cells tags : List ℕ) (i : ℕ) → i < base → Named base (fragmentRules n cells tags i)
   unfolding fragmentRules
-  fragment-named n cells tags i h = one-more (omega arith) h (one-more (omega arith) h (earlier-named _ _ i h))
+  fragment-named n cells tags i h = one-more (omega arith) h (one-more (omega arith) h (one-more (omega arith) h (earlier-named _ _ i h)))
 
   -- S's and F's, of any count
   removal-fits : (n : ℕ) (table answer work : List ℕ) (count : ℕ) → (n ≤ 128 → fragments table ≤ 128 → count < base) → HostFits base (decide (removalRules n table answer work) (accepted count))

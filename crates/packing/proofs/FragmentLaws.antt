@@ -1,23 +1,25 @@
--- A fragment's row as a part of the cells, and what the rows keep once no fragment breaks rule 6, 4, 9 or 13.
+-- A fragment's row as a part of the cells, and what the rows keep once no fragment breaks rule 6, 17, 4, 9 or 13.
 -- Assumes nothing.
-use mathlib.Core.Path.{_≡_, refl, sym, ap, ap₂, _∙_}
+use mathlib.Core.Path.{_≡_, refl, sym, ap, ap₂, subst, _∙_}
 use mathlib.Core.Logic.{inl, inr}
 use mathlib.Core.Bool.{Bool}
-use mathlib.Core.List.{List, List·Memᴰ·head, List·Memᴰ·tail}
+use mathlib.Core.List.{List, [], _∷_, List·Memᴰ·head, List·Memᴰ·tail}
 use Prim.Native.Nat.{ℕ, _+_, _*_, _-_, _≤_, _<_}
-use native.Mathlib.Nat.{add-sub-cancel-left, eq-zero-or-pos}
+use native.Mathlib.Nat.{add-sub-cancel-left, eq-zero-or-pos, pos-of-ne-zero}
 use native.Mathlib.Omega.{arith}
 use lib.Dec.{T}
 use lib.ListN.{length, getD, take, drop, length-drop}
 use lib.Seq.{getD-take, getD-drop, length-take-le}
-use Rattle.below.specs.Below.{_<?_, _and_, anyBelow}
-use Rattle.records.specs.Writing.{callsStart, callsEnd, callsSpan, recordOf, codesOf, writable, rowOf}
-use Rattle.records.specs.Rules.{precedes, outOfOrder, earlierRules}
-use Rattle.below.proofs.BelowLaws.{both, isnt-<?, le-≤?, le-isnt, any-ext, none-at, none-of}
+use Rattle.below.specs.Below.{_==_, _<?_, _and_, isnt, anyBelow, tab, concat}
+use Rattle.records.specs.Writing.{callsStart, callsEnd, callsSpan, withoutCalls, recordOf, codesOf, writable, rowOf}
+use Rattle.records.specs.Outcome.{Verdict}
+use Rattle.records.specs.Rules.{rule, decide, precedes, outOfOrder, earlierRules}
+use Rattle.below.proofs.BelowLaws.{both, isnt-==, isnt-<?, le-≤?, le-isnt, any-ext, none-at, none-of}
 use Rattle.below.proofs.SearchLaws.{<?-false}
 use Rattle.below.proofs.MemberLaws.{concat-of, tab-of}
-use Rattle.records.proofs.RuleLaws.{NoneBroken, unbroken, all-unbroken}
-use Rattle.records.proofs.KeptLaws.{rule-unbroken, rows-kept}
+use Rattle.records.proofs.RuleLaws.{NoneBroken, decide-append, unbroken, all-unbroken, rows-single}
+use Rattle.records.proofs.ExtentLaws.{none-called}
+use Rattle.records.proofs.KeptLaws.{rule-unbroken}
 use Rattle.records.proofs.PackLaws.{calls-same, recordOf-same}
 use Rattle.writing.proofs.ScanLaws.{start-le-end}
 use Rattle.conflicts.specs.Services.{packedStart, packedTag, fragmentRules}
@@ -72,6 +74,9 @@ module _ (n : ℕ) (cells : List ℕ) (i : ℕ) {at : ℕ} (here : at ≡ i * n)
     unfolding callsSpan
     span-read = sym (ap₂ _-_ ends (starts ∙ sym row-start) ∙ row-span)
 
+    pub empty-read : withoutCalls n (rowOf n cells i) ≡ (end - start == 0)
+    empty-read = none-called n (rowOf n cells i) ∙ ap (λ (s : ℕ). s == 0) span-read
+
 -- 13, from the starts of a fragment and of the one before it
 pub order-read : (n : ℕ) (cells tags : List ℕ) (i : ℕ) {start last : ℕ} {fallen : Bool} → Starts n cells i start last
     → fallen ≡ (0 <? i and precedes start (packedTag tags i) last (packedTag tags (i - 1))) → outOfOrder (packedStart n cells) (packedTag tags) i ≡ fallen
@@ -93,23 +98,32 @@ module _ {n : ℕ} {cells tags : List ℕ} (fragments : FragmentsKept n cells ta
   unfolding fragmentRules
   kept-small c l = isnt-<? _ _ (none-at n _ (kept-rule _ (List·Memᴰ·head refl)) c l)
 
+  -- 17
+  pub kept-calls : 0 < callsSpan n (rowOf n cells i)
+  unfolding fragmentRules
+  kept-calls = pos-of-ne-zero (isnt-== _ _ (subst (λ (b : Bool). T (isnt b)) (none-called n (rowOf n cells i)) (kept-rule _ (List·Memᴰ·tail (List·Memᴰ·head refl)))))
+
   -- 4
   pub kept-narrow : callsSpan n (rowOf n cells i) ≤ 96
   unfolding fragmentRules
-  kept-narrow = isnt-<? _ _ (kept-rule _ (List·Memᴰ·tail (List·Memᴰ·head refl)))
+  kept-narrow = isnt-<? _ _ (kept-rule _ (List·Memᴰ·tail (List·Memᴰ·tail (List·Memᴰ·head refl))))
 
   -- 9 and 13
   pub kept-earlier : NoneBroken (earlierRules (packedStart n cells) (packedTag tags) i)
   unfolding fragmentRules
-  kept-earlier r m = kept-rule r (List·Memᴰ·tail (List·Memᴰ·tail m))
+  kept-earlier r m = kept-rule r (List·Memᴰ·tail (List·Memᴰ·tail (List·Memᴰ·tail m)))
 
--- fragments that pack takes
-pub fragments-kept-of : {n : ℕ} {cells tags : List ℕ} → ((i : ℕ) → i < length tags → (c : ℕ) → c < n → rowOf n cells i c ≤ 2) → ((i : ℕ) → i < length tags → callsSpan n (rowOf n cells i) ≤ 96)
-    → ((i : ℕ) → i < length tags → NoneBroken (earlierRules (packedStart n cells) (packedTag tags) i)) → FragmentsKept n cells tags
+-- 17 alone decides of fragments that keep the other rules
+pub calls-decide : (n : ℕ) (cells tags : List ℕ) {m : ℕ} (span : ℕ → ℕ) (v : Verdict) → length tags ≡ m → ((i : ℕ) → i < m → (c : ℕ) → c < n → rowOf n cells i c ≤ 2)
+    → ((i : ℕ) → i < m → callsSpan n (rowOf n cells i) ≡ span i) → ((i : ℕ) → i < m → span i ≤ 96) → ((i : ℕ) → i < m → NoneBroken (earlierRules (packedStart n cells) (packedTag tags) i))
+    → decide (fragmentsRules n cells tags) v ≡ decide (tab m (λ i. rule 17 i (span i == 0))) v
 unfolding fragmentsRules fragmentRules
-fragments-kept-of {n} {cells} {tags} small narrow earlier = record {
-  kept = rows-kept (fragmentRules n cells tags) (length tags) _ (λ i l.
-      rule-unbroken _ _ _ (none-of n _ (λ c k. le-isnt _ _ (small i l c k)))
-      ∙ rule-unbroken _ _ _ (le-isnt _ _ (narrow i l))
-      ∙ all-unbroken _ _ (earlier i l));
-}
+calls-decide n cells tags span v count small spans narrow earlier =
+    ap (λ (k : ℕ). decide (concat (tab k (fragmentRules n cells tags))) v) count
+    ∙ rows-single (fragmentRules n cells tags) (λ i. rule 17 i (span i == 0)) _ v (λ i l w.
+    let s = spans i l in
+    let few = narrow i l in
+    rule-unbroken _ _ w (none-of n _ (λ c k. le-isnt _ _ (small i l c k)))
+    ∙ decide-append (rule 17 i _ ∷ []) _ w
+    ∙ ap (decide (rule 17 i _ ∷ [])) (rule-unbroken _ _ w (le-isnt _ _ (omega arith)) ∙ all-unbroken _ w (earlier i l))
+    ∙ ap (λ (b : Bool). decide (rule 17 i b ∷ []) w) (none-called n (rowOf n cells i) ∙ ap (λ (k : ℕ). k == 0) s))

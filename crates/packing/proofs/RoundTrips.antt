@@ -1,32 +1,42 @@
--- Unpack and pack undo each other on what they accept, and each accepts what the other gives.
+-- Unpack and pack undo each other on what they accept. Unpack accepts what pack gives, and pack what unpack gives of a table with calls in each record.
 -- Assumes nothing.
 use mathlib.Core.Path.{_≡_, sym, ap, subst, _∙_}
+use mathlib.Core.Logic.{inl, inr}
 use mathlib.Core.List.{List}
 use Prim.Native.Nat.{ℕ, _*_, _<_}
+use native.Mathlib.Nat.{pos-of-ne-zero}
 use native.Mathlib.Omega.{arith}
 use lib.ListN.{length, getD}
-use Rattle.records.specs.Record.{startOf, codeAt}
+use Rattle.below.specs.Below.{_==_, tab}
+use Rattle.records.specs.Record.{startOf, spanOf, codeAt}
 use Rattle.records.specs.Table.{fragments, recordAt, startAt, tagAt, unpackedCells, unpackedTags}
 use Rattle.records.specs.Writing.{rowOf, packed}
-use Rattle.records.specs.Outcome.{accepted}
-use Rattle.records.specs.Rules.{decide, earlierRules, tableRules}
-use Rattle.records.proofs.RuleLaws.{NoneBroken}
+use Rattle.records.specs.Outcome.{Verdict, accepted}
+use Rattle.records.specs.Rules.{rule, decide, earlierRules, tableRules}
+use Rattle.records.proofs.RuleLaws.{NoneBroken, places-kept, places-refused}
 use Rattle.records.proofs.OrderLaws.{earlier-same}
-use Rattle.records.proofs.PackLaws.{Sound, calls-same, sound-narrow, start-recordOf}
+use Rattle.records.proofs.PackLaws.{Sound, calls-same, sound-narrow, span-recordOf, start-recordOf}
 use Rattle.records.proofs.SoundLaws.{sound-row-start, sound-row-span, sound-row-small, recordOf-sound}
 use Rattle.records.proofs.TableLaws.{Packable, length-whole, length-unpackedCells, length-unpackedTags, tag-unpacked, row-unpacked, table-again, length-packed, fragments-packed, record-packed, tag-packed, tags-again, unpacked-again}
 use Rattle.records.proofs.AcceptedLaws.{few-columns, whole-records, few-fragments, accepted-sound, accepted-earlier}
 use Rattle.records.proofs.KeptLaws.{sizes-kept, rows-kept, record-kept}
+use Rattle.below.proofs.BelowLaws.{isnt-==, ne-isnt}
+use Rattle.below.proofs.SearchLaws.{lowest-or-none}
 use Rattle.conflicts.specs.Services.{packedStart, packedTag, unpackLeaves, packLeaves}
+use Rattle.conflicts.proofs.Outcomes.{pack-refused}
 use Rattle.records.specs.Algorithm.Kept.{SizesKept}
 use Rattle.packing.specs.Algorithm.Sizes.{PackSized, FragmentsKept}
-use Rattle.packing.specs.RoundTrips.{UnpackThenPack, PackThenUnpack}
+use Rattle.packing.specs.RoundTrips.{NumbersBelow, UnpackCall, PackCall, TableRestored, EmptyRefused, SpansOverZero, FirstEmpty, UnpackThenPack, UnpackThenRefused, SpansOrEmpty, PackThenUnpack, PackWritesCalls}
 use Rattle.packing.proofs.SizeLaws.{pack-n, pack-exact, pack-m, pack-sized-of}
 use Rattle.packing.proofs.UnpackLaws.{accepted-sized, accepted-records, left-cells, left-tags, unpack-records}
-use Rattle.packing.proofs.FragmentLaws.{kept-small, kept-narrow, kept-earlier, fragments-kept-of}
+use Rattle.packing.proofs.FragmentLaws.{kept-small, kept-calls, kept-narrow, kept-earlier, calls-decide}
 use Rattle.packing.proofs.PackLaws.{pack-fragments, accepted-sizes, accepted-fragments, pack-accepts}
 
 -- ---- table, cells and tags, table
+
+-- the verdict on a table by 17 alone
+abbrev byCalls : List ℕ → ℕ → Verdict
+byCalls table count = decide (tab (fragments table) (λ i. rule 17 i (spanOf (recordAt table i) == 0))) (accepted count)
 
 module _ (n : ℕ) (table : List ℕ) (sized : SizesKept n (fragments table) table) (kept : decide (tableRules n table) (accepted (fragments table)) ≡ accepted (fragments table)) where
   sound : (i : ℕ) → i < fragments table → Sound n (recordAt table i)
@@ -47,38 +57,65 @@ module _ (n : ℕ) (table : List ℕ) (sized : SizesKept n (fragments table) tab
       sym (calls-same n (rowOf n (unpackedCells n table) h) (codeAt (recordAt table h)) (row-unpacked table n h inside) .0 ∙ sound-row-start n (recordAt table h) (sound h inside)))
       (λ h k. sym (tag-unpacked table h (omega arith)))
 
-  unpacked-fragments : FragmentsKept n (unpackedCells n table) (unpackedTags table)
-  unpacked-fragments =
-      let m = length-unpackedTags table in
-      let within : (i : ℕ) → i < length (unpackedTags table) → i < fragments table = λ i l. omega arith in
-      fragments-kept-of
-      (λ i l c k. let e = row-unpacked table n i (within i l) c k in let s = sound-row-small n (recordAt table i) (sound i (within i l)) c in omega arith)
-      (λ i l.
-      let e = calls-same n (rowOf n (unpackedCells n table) i) (codeAt (recordAt table i)) (row-unpacked table n i (within i l)) .1 in
-      let s = sound-row-span n (recordAt table i) (sound i (within i l)) in
-      let w = sound-narrow n (recordAt table i) (sound i (within i l)) in
-      omega arith)
-      (λ i l. subst NoneBroken (earlier-unpacked i (within i l)) (accepted-earlier n table _ _ kept i (within i l)))
-
-  pack-unpacked : (out : List ℕ) → length out ≡ length table → packLeaves n (unpackedCells n table) (unpackedTags table) out .outcome ≡ accepted (fragments table)
-  pack-unpacked out e =
+  -- pack's verdict on what unpack gave
+  unpacked-verdict : (out : List ℕ) → length out ≡ length table → packLeaves n (unpackedCells n table) (unpackedTags table) out .outcome ≡ byCalls table (fragments table)
+  unpacked-verdict out e =
       let m = length-unpackedTags table in
       let w = length-whole table (whole-records n table _ _ (sized .kept)) in
-      pack-fragments n _ _ out unpacked-sized (omega arith) ∙ unpacked-fragments .kept ∙ ap accepted m
+      pack-fragments n _ _ out unpacked-sized (omega arith)
+      ∙ calls-decide n _ _ (λ i. spanOf (recordAt table i)) _ m
+      (λ i l c k. let e = row-unpacked table n i l c k in let s = sound-row-small n (recordAt table i) (sound i l) c in omega arith)
+      (λ i l. calls-same n (rowOf n (unpackedCells n table) i) (codeAt (recordAt table i)) (row-unpacked table n i l) .1 ∙ sound-row-span n (recordAt table i) (sound i l))
+      (λ i l. sound-narrow n (recordAt table i) (sound i l))
+      (λ i l. subst NoneBroken (earlier-unpacked i l) (accepted-earlier n table _ _ kept i l))
+      ∙ ap (byCalls table) m
 
--- every table of bytes that unpack accepts is restored, byte for byte, by packing what unpack gives
+-- a call of unpack that accepts, and one of pack on what it left
+module _ (n m : ℕ) (table cells tags cellsLeft tagsLeft out tableLeft : List ℕ) (first second : Verdict) (unpacks : UnpackCall n table cells tags first cellsLeft tagsLeft) (accepts : first ≡ accepted m)
+    (exact : length out ≡ length table) (packs : PackCall n cellsLeft tagsLeft out second tableLeft) where
+  taken : unpackLeaves n table cells tags .outcome ≡ accepted m
+  taken = sym (unpacks .outcome) ∙ accepts
+
+  sizes : SizesKept n (fragments table) table
+  sizes = accepted-sized n m table cells tags taken
+
+  records : decide (tableRules n table) (accepted (fragments table)) ≡ accepted (fragments table)
+  records = accepted-records n m table cells tags taken
+
+  packs-unpacked : PackCall n (unpackedCells n table) (unpackedTags table) out second tableLeft
+  packs-unpacked =
+      subst (λ (c : List ℕ). PackCall n c (unpackedTags table) out second tableLeft) (unpacks .cells-left ∙ left-cells n m table cells tags taken)
+      (subst (λ (t : List ℕ). PackCall n cellsLeft t out second tableLeft) (unpacks .tags-left ∙ left-tags n m table cells tags taken) packs)
+
+  verdict : second ≡ byCalls table (fragments table)
+  verdict = packs-unpacked .outcome ∙ unpacked-verdict n table sizes records out exact
+
+  restored : NumbersBelow 256 table → SpansOverZero table → TableRestored table second tableLeft
+  restored bytes over =
+      let done = verdict ∙ places-kept _ _ (fragments table) (λ i l. ne-isnt _ _ (λ e. let o = over i l in omega arith)) in
+      record {
+        accepts = done;
+        restores =
+            packs-unpacked .table-left
+            ∙ sym (pack-accepts n _ _ out _ (sym (packs-unpacked .outcome) ∙ done) .1)
+            ∙ table-again n table (whole-records n table _ _ (sizes .kept)) (bytes .fits) (sound n table sizes records);
+      }
+
+  refused-empty : (i : ℕ) → FirstEmpty table i → EmptyRefused i out second tableLeft
+  refused-empty i empty =
+      let done = verdict ∙ places-refused _ _ (fragments table) i empty in
+      record { refuses = done; untouched = packs-unpacked .table-left ∙ pack-refused n 17 i _ _ out (sym (packs-unpacked .outcome) ∙ done) }
+
+-- every table of bytes that unpack accepts, with calls in each record, is restored, byte for byte, by packing what unpack gives
 pub table-round : UnpackThenPack
-table-round n m table cells tags cellsLeft tagsLeft out tableLeft first second bytes unpacks accepts exact packs =
-    let e = sym (unpacks .outcome) ∙ accepts in
-    let sized = accepted-sized n m table cells tags e in
-    let kept = accepted-records n m table cells tags e in
-    let done = pack-unpacked n table sized kept out exact in
-    let a = unpacks .cells-left ∙ left-cells n m table cells tags e in
-    let b = unpacks .tags-left ∙ left-tags n m table cells tags e in
-    record {
-      accepts = packs .outcome ∙ rw (a, b) done;
-      restores = packs .table-left ∙ rw (a, b) (sym (pack-accepts n _ _ out _ done .1) ∙ table-again n table (whole-records n table _ _ (sized .kept)) (bytes .fits) (sound n table sized kept));
-    }
+table-round = restored
+
+-- of another table that unpack accepts, packing what unpack gives is refused by 17 at its first record without calls
+pub empty-round : UnpackThenRefused
+empty-round = refused-empty
+
+pub spans-or-empty : SpansOrEmpty
+spans-or-empty table = elim (lowest-or-none (fragments table) (λ i. spanOf (recordAt table i) == 0)) [ inl e ↦ inr e | inr f ↦ inl (λ i l. pos-of-ne-zero (isnt-== _ _ (f i l))) ]
 
 -- ---- cells and tags, table, cells and tags
 
@@ -130,3 +167,14 @@ cells-round n m cells tags table tableLeft cellsOut tagsOut cellsLeft tagsLeft f
       restores-cells = unpacks .cells-left ∙ rw a (left-cells n _ (packed n cells tags) cellsOut tagsOut done ∙ unpacked-again n cells tags whole);
       restores-tags = unpacks .tags-left ∙ rw a (left-tags n _ (packed n cells tags) cellsOut tagsOut done ∙ tags-again n cells tags whole);
     }
+
+-- a table that pack writes has calls in each record
+pub packed-calls : PackWritesCalls
+packed-calls n m cells tags table tableLeft verdict packs accepts i l =
+    let e = sym (packs .outcome) ∙ accepts in
+    let left = packs .table-left ∙ sym (pack-accepts n cells tags table m e .1) in
+    let count = ap fragments left ∙ fragments-packed n cells tags in
+    let inside : i < length tags = omega arith in
+    let some = kept-calls (accepted-fragments n cells tags table m e) i inside in
+    let span = ap (λ (t : List ℕ). spanOf (recordAt t i)) left ∙ ap spanOf (record-packed n cells tags i inside) ∙ span-recordOf n (getD tags i 0) (rowOf n cells i) in
+    omega arith

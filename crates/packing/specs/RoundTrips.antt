@@ -1,11 +1,14 @@
--- Unpack and pack undo each other: "unpack then pack restores every record, pack then unpack every call". A call is given by what its contract says of it.
+-- Unpack and pack undo each other: "unpack then pack restores every record, pack then unpack every call"; "restoring records by packing is claimed for tables in which every span is over 0". A call is given by what its contract says of it.
 -- Assumes nothing.
 use mathlib.Core.Path.{_≡_}
+use mathlib.Core.Logic.{_⊎_}
 use mathlib.Core.List.{List}
 use Prim.Native.Nat.{ℕ, _<_}
 use lib.ListN.{length, getD}
-use Rattle.records.specs.Table.{fragments}
-use Rattle.records.specs.Outcome.{Verdict, accepted}
+use Rattle.below.specs.Below.{Lowest, _==_}
+use Rattle.records.specs.Record.{spanOf}
+use Rattle.records.specs.Table.{fragments, recordAt}
+use Rattle.records.specs.Outcome.{Verdict, accepted, refused}
 use Rattle.conflicts.specs.Services.{unpackLeaves, packLeaves}
 
 -- every number of a buffer is below a bound: 256 for bytes, 2^32 for tags
@@ -34,11 +37,38 @@ pub record CellsRestored (cells tags : List ℕ) (verdict : Verdict) (cellsLeft 
   pub restores-cells : cellsLeft ≡ cells
   pub restores-tags : tagsLeft ≡ tags
 
--- "unpack then pack restores every record": of every table that unpack accepts, into any buffer of the table's length
+-- pack refuses fragment i, which has no call, and leaves its buffer as it was
+pub record EmptyRefused (i : ℕ) (out : List ℕ) (verdict : Verdict) (tableLeft : List ℕ) : Type 0 where
+  pub refuses : verdict ≡ refused 17 i
+  pub untouched : tableLeft ≡ out
+
+-- "every span is over 0"
+abbrev pub SpansOverZero : List ℕ → Type 0
+SpansOverZero table = (i : ℕ) → i < fragments table → 0 < spanOf (recordAt table i)
+
+-- the first record of a table without calls
+abbrev pub FirstEmpty : List ℕ → ℕ → Type 0
+FirstEmpty table = Lowest (fragments table) (λ i. spanOf (recordAt table i) == 0)
+
+-- restoring records by packing: of every table that unpack accepts and in which every span is over 0, into any buffer of the table's length
 abbrev pub UnpackThenPack : Type 0
 UnpackThenPack =
-    (n m : ℕ) (table cells tags cellsLeft tagsLeft out tableLeft : List ℕ) (first second : Verdict) → NumbersBelow 256 table → UnpackCall n table cells tags first cellsLeft tagsLeft → first ≡ accepted m
-    → length out ≡ length table → PackCall n cellsLeft tagsLeft out second tableLeft → TableRestored table second tableLeft
+    (n m : ℕ) (table cells tags cellsLeft tagsLeft out tableLeft : List ℕ) (first second : Verdict) → UnpackCall n table cells tags first cellsLeft tagsLeft → first ≡ accepted m
+    → length out ≡ length table → PackCall n cellsLeft tagsLeft out second tableLeft → NumbersBelow 256 table → SpansOverZero table → TableRestored table second tableLeft
+
+-- of every other table that unpack accepts: pack refuses what unpack gave, at the first record without calls
+abbrev pub UnpackThenRefused : Type 0
+UnpackThenRefused =
+    (n m : ℕ) (table cells tags cellsLeft tagsLeft out tableLeft : List ℕ) (first second : Verdict) → UnpackCall n table cells tags first cellsLeft tagsLeft → first ≡ accepted m
+    → length out ≡ length table → PackCall n cellsLeft tagsLeft out second tableLeft → (i : ℕ) → FirstEmpty table i → EmptyRefused i out second tableLeft
+
+-- there is no third kind of table: nothing is lost without a refusal
+abbrev pub SpansOrEmpty : Type 0
+SpansOrEmpty = (table : List ℕ) → SpansOverZero table ⊎ ((i : ℕ) × FirstEmpty table i)
+
+-- "pack no longer writes them": no record of a table that pack writes is without calls
+abbrev pub PackWritesCalls : Type 0
+PackWritesCalls = (n m : ℕ) (cells tags table tableLeft : List ℕ) (verdict : Verdict) → PackCall n cells tags table verdict tableLeft → verdict ≡ accepted m → SpansOverZero tableLeft
 
 -- "pack then unpack every call": of all cells and tags that pack accepts, into any buffers of their lengths
 abbrev pub PackThenUnpack : Type 0

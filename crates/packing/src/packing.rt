@@ -81,7 +81,7 @@ fn start_of(n: usize, cells: &[u8], i: usize) -> usize
     calls_start(&cells[from..from + n])
 }
 
-// Fragment i by 6, 4, 9 and 13, by its start and the last one: no row is looked through for its start twice.
+// Fragment i by 6, 17, 4, 9 and 13, by its start and the last one: no row is looked through for its start twice.
 fn fragment_fault(
     n: usize,
     cells: &[u8],
@@ -100,7 +100,11 @@ fn fragment_fault(
     if any_unknown(row) {
         return Outcome::Refused(6, i);
     }
-    if 96 < calls_end(row) - start {
+    let span = calls_end(row) - start;
+    if span == 0 {
+        return Outcome::Refused(17, i);
+    }
+    if 96 < span {
         return Outcome::Refused(4, i);
     }
     if tag_before(tags, i) {
@@ -112,7 +116,7 @@ fn fragment_fault(
     Outcome::Accepted(0)
 }
 
-// The fragments from 0, each by 6, 4, 9 and 13: the first fault, or the number of tags.
+// The fragments from 0, each by 6, 17, 4, 9 and 13: the first fault, or the number of tags.
 fn fragments_fault(n: usize, cells: &[u8], tags: &[u32]) -> Outcome
     requires { ⌜ PackSized n (now cells) (now tags) ⌝ }
     ensures { λ r. ⌜ outcomeOf r ≡ decide (fragmentsRules n (now (cells .entry)) (now (tags .entry))) (accepted (length (now (tags .entry)))) ⌝ }

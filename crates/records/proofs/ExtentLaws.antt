@@ -10,9 +10,9 @@ use native.Mathlib.Omega.{arith}
 use lib.Dec.{T}
 use Rattle.below.specs.Below.{firstBelow, endBelow, anyBelow, _==_, isnt}
 use Rattle.records.specs.Record.{isCall}
-use Rattle.records.specs.Writing.{callsEnd, callsStart, callsSpan}
+use Rattle.records.specs.Writing.{callsEnd, callsStart, callsSpan, withoutCalls}
 use Rattle.records.specs.Rules.{gapIn}
-use Rattle.below.proofs.BelowLaws.{both, left-of, right-of, or-left, or-right, or-cases, same-test, T-isnt, isnt-T, if-ind, if-true, if-false, ==-eq, ==-refl, eq-==, ne-isnt, <?-lt, lt-<?, anyBelow-of, anyBelow-at, firstBelow-at, firstBelow-least}
+use Rattle.below.proofs.BelowLaws.{both, left-of, right-of, or-left, or-right, or-cases, same-test, T-isnt, isnt-T, if-ind, if-true, if-false, ==-eq, ==-refl, eq-==, ne-isnt, <?-lt, lt-<?, anyBelow-of, anyBelow-at, none-at, none-of, firstBelow-at, firstBelow-least}
 
 -- ---- the end of the numbers that pass
 
@@ -148,6 +148,16 @@ module _ (n : ℕ) (row : ℕ → ℕ) where
             before = λ c l. isnt-T (isCall (row c)) (λ t. let g = firstBelow-least n (calls row) c (omega arith) t in absurd (omega arith));
             after = λ c l k. past-end c (omega arith) k;
           }
+
+  -- a row has no call exactly if its calls reach over no column
+  pub none-called : withoutCalls n row ≡ (callsSpan n row == 0)
+  unfolding withoutCalls
+  none-called =
+      let x = extent-of in
+      let w = x .fits in
+      same-test _ _
+      (λ t. elim (eq-zero-or-pos (callsSpan n row)) [ inl e ↦ eq-== _ _ e | inr h ↦ absurd (T-isnt _ (none-at n (calls row) t (callsStart n row) (omega arith)) (x .first h)) ])
+      (λ t. let e = ==-eq _ _ t in let z = x .none e in none-of n (calls row) (λ c l. x .after c (omega arith) l))
 
 -- a hole stands between two calls exactly if the calls reach over it
 module _ (n : ℕ) (row : ℕ → ℕ) (f s : ℕ) (x : Extent n (calls row) f s) where

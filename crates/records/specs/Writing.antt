@@ -29,6 +29,10 @@ callsStart n row = if callsEnd n row == 0 then 0 else firstBelow n (λ c. isCall
 unfoldable pub callsSpan : ℕ → (ℕ → ℕ) → ℕ
 callsSpan n row = callsEnd n row - callsStart n row
 
+-- a row of n codes "has no call"
+unfoldable pub withoutCalls : ℕ → (ℕ → ℕ) → Bool
+withoutCalls n row = isnt (anyBelow n (λ c. isCall (row c)))
+
 -- the codes of a span that starts at column f and is s columns long
 unfoldable pub cut : ℕ → ℕ → (ℕ → ℕ) → ℕ → ℕ
 cut f s row i = if i <? s then row (f + i) else 0

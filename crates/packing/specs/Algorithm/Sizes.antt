@@ -14,11 +14,11 @@ use Rattle.conflicts.specs.Services.{packSizeRules, packedStart, fragmentRules}
 pub record PackSized (n : ℕ) (cells tags : List ℕ) : Type 0 where
   pub kept : decide (packSizeRules n cells tags) (accepted (length tags)) ≡ accepted (length tags)
 
--- each fragment by 6, 4, 9 and 13
+-- each fragment by 6, 17, 4, 9 and 13
 unfoldable pub fragmentsRules : ℕ → List ℕ → List ℕ → List Rule
 fragmentsRules n cells tags = concat (tab (length tags) (fragmentRules n cells tags))
 
--- rules 6, 4, 9 and 13 are kept by each fragment
+-- rules 6, 17, 4, 9 and 13 are kept by each fragment
 pub record FragmentsKept (n : ℕ) (cells tags : List ℕ) : Type 0 where
   pub kept : decide (fragmentsRules n cells tags) (accepted (length tags)) ≡ accepted (length tags)
 

@@ -1,20 +1,21 @@
 -- `packing::fragment_fault` meets its contract.
 -- Assumes nothing.
 use mathlib.Core.Path.{_≡_, refl, sym, ap, _∙_}
+use mathlib.Core.Bool.{false}
 use mathlib.Core.List.{[], _∷_}
 use Prim.Native.Nat.{ℕ, _+_, _*_, _-_, _≤_}
 use native.Mathlib.Omega.{arith}
 use lib.ListN.{length}
 use borrow.Author.Needs.{needs}
-use Rattle.below.specs.Below.{_<?_}
+use Rattle.below.specs.Below.{_==_, _<?_, anyBelow}
 use Rattle.records.specs.Outcome.{accepted}
-use Rattle.records.specs.Writing.{callsSpan, rowOf}
+use Rattle.records.specs.Writing.{callsSpan, withoutCalls, rowOf}
 use Rattle.records.specs.Rules.{rule, decide, earlierRules}
 use Rattle.records.proofs.RuleLaws.{rule-broken, rule-kept, decide-none}
-use Rattle.below.proofs.SearchLaws.{<?-true, <?-false}
+use Rattle.below.proofs.SearchLaws.{==-true, ==-false, <?-true, <?-false}
 use Rattle.below.proofs.RowLaws.{product-fits}
 use Rattle.conflicts.specs.Services.{packedStart, packedTag, fragmentRules}
-use Rattle.packing.proofs.FragmentLaws.{row-unknown, start-within, span-read, order-read}
+use Rattle.packing.proofs.FragmentLaws.{row-unknown, start-within, span-read, empty-read, order-read}
 use Rattle.packing.proofs.SizeLaws.{pack-n, pack-m, pack-row}
 use Rattle.packing.proofs.packing.fragment_fault.Statement.{statement}
 use Rattle.packing.proofs.packing.fragment_fault.Tie as tie
@@ -41,19 +42,27 @@ returns c =
     sym (rule-broken _ _ _ (sym (row-unknown _ _ _ refl (row-in row)) ∙ sym (c .before .any-unknown .ensures) ∙ c .if1 .taken))
 
 -- 6 is kept
-past-6 : (c : tie.Else1)
+known : (c : tie.Else1)
     → let args = c .before .before .before .before .before .args in
-    decide (fragmentRules (args .n) (args .cells .now) (args .tags .now) (args .i)) (accepted 0) ≡ decide (rule 4 (args .i) (96 <? callsSpan (args .n) (rowOf (args .n) (args .cells .now) (args .i))) ∷ earlierRules (packedStart (args .n) (args .cells .now)) (packedTag (args .tags .now)) (args .i)) (accepted 0)
-unfolding fragmentRules
-past-6 c =
+    anyBelow (args .n) (λ k. 2 <? rowOf (args .n) (args .cells .now) (args .i) k) ≡ false
+known c =
     let row = c .before .before .before in
-    rule-kept _ _ _ (sym (row-unknown _ _ _ refl (row-in row)) ∙ sym (c .before .any-unknown .ensures) ∙ c .if1 .left)
+    sym (row-unknown _ _ _ refl (row-in row)) ∙ sym (c .before .any-unknown .ensures) ∙ c .if1 .left
 
-sub-if2 : tie.Need-sub-if2
-sub-if2 c =
+sub-span : tie.Need-sub-span
+sub-span c =
     let row = c .before .before .before .before in
     start-within _ _ _ refl (row-in row) (row .before .before .pre .1 .1 .here) (c .calls-end .ensures)
 
+-- 17, from the span that is read
+empty-is : (c : tie.After-calls-end)
+    → let args = c .before .before .before .before .before .before .args in
+    withoutCalls (args .n) (rowOf (args .n) (args .cells .now) (args .i)) ≡ (c .calls-end .result - args .start == 0)
+empty-is c =
+    let row = c .before .before .before .before in
+    empty-read _ _ _ refl (row-in row) (row .before .before .pre .1 .1 .here) (c .calls-end .ensures)
+
+-- 4, from the same
 span-is : (c : tie.After-calls-end)
     → let args = c .before .before .before .before .before .before .args in
     (96 <? callsSpan (args .n) (rowOf (args .n) (args .cells .now) (args .i))) ≡ (96 <? c .calls-end .result - args .start)
@@ -62,34 +71,45 @@ span-is c =
     ap (λ (s : ℕ). 96 <? s) (span-read _ _ _ refl (row-in row) (row .before .before .pre .1 .1 .here) (c .calls-end .ensures))
 
 returns-2 : tie.Need-returns-2
-returns-2 c = sym (past-6 (c .before .before) ∙ rule-broken _ _ _ (span-is (c .before) ∙ <?-true _ _ (c .if2 .taken)))
+unfolding fragmentRules
+returns-2 c = sym (rule-kept _ _ _ (known (c .before .before)) ∙ rule-broken _ _ _ (empty-is (c .before) ∙ ==-true _ _ (c .if2 .taken)))
 
--- 4 is kept too
-past-4 : (c : tie.Else2)
+-- 17 is kept too
+past-17 : (c : tie.Else2)
     → let args = c .before .before .before .before .before .before .before .args in
-    decide (fragmentRules (args .n) (args .cells .now) (args .tags .now) (args .i)) (accepted 0) ≡ decide (earlierRules (packedStart (args .n) (args .cells .now)) (packedTag (args .tags .now)) (args .i)) (accepted 0)
-past-4 c = past-6 (c .before .before) ∙ rule-kept _ _ _ (span-is (c .before) ∙ <?-false _ _ (c .if2 .left))
+    decide (fragmentRules (args .n) (args .cells .now) (args .tags .now) (args .i)) (accepted 0) ≡ decide (rule 4 (args .i) (96 <? callsSpan (args .n) (rowOf (args .n) (args .cells .now) (args .i))) ∷ earlierRules (packedStart (args .n) (args .cells .now)) (packedTag (args .tags .now)) (args .i)) (accepted 0)
+unfolding fragmentRules
+past-17 c = rule-kept _ _ _ (known (c .before .before)) ∙ rule-kept _ _ _ (empty-is (c .before) ∙ ==-false _ _ (c .if2 .left))
 
 returns-3 : tie.Need-returns-3
+returns-3 c = sym (past-17 (c .before) ∙ rule-broken _ _ _ (span-is (c .before .before) ∙ <?-true _ _ (c .if3 .taken)))
+
+-- 4 is kept too
+past-4 : (c : tie.Else3)
+    → let args = c .before .before .before .before .before .before .before .before .args in
+    decide (fragmentRules (args .n) (args .cells .now) (args .tags .now) (args .i)) (accepted 0) ≡ decide (earlierRules (packedStart (args .n) (args .cells .now)) (packedTag (args .tags .now)) (args .i)) (accepted 0)
+past-4 c = past-17 (c .before) ∙ rule-kept _ _ _ (span-is (c .before .before) ∙ <?-false _ _ (c .if3 .left))
+
+returns-4 : tie.Need-returns-4
 unfolding earlierRules
-returns-3 c = sym (past-4 (c .before .before) ∙ rule-broken _ _ _ (sym (c .before .tag-before .ensures) ∙ c .if3 .taken))
+returns-4 c = sym (past-4 (c .before .before) ∙ rule-broken _ _ _ (sym (c .before .tag-before .ensures) ∙ c .if4 .taken))
 
 -- 9 is kept too
 past-9 : (c : tie.After-out-of-order)
-    → let args = c .before .before .before .before .before .before .before .before .before .before .args in
+    → let args = c .before .before .before .before .before .before .before .before .before .before .before .args in
     decide (fragmentRules (args .n) (args .cells .now) (args .tags .now) (args .i)) (accepted 0) ≡ decide (rule 13 (args .i) (c .out-of-order .result) ∷ []) (accepted 0)
 unfolding earlierRules
 past-9 c =
-    let start = c .before .before .before .before .before .before .before .before .before .before in
+    let start = c .before .before .before .before .before .before .before .before .before .before .before in
     past-4 (c .before .before .before)
-    ∙ rule-kept _ _ _ (sym (c .before .before .tag-before .ensures) ∙ c .before .if3 .left)
+    ∙ rule-kept _ _ _ (sym (c .before .before .tag-before .ensures) ∙ c .before .if4 .left)
     ∙ ap (λ b. decide (rule 13 (start .args .i) b ∷ []) (accepted 0)) (order-read _ _ (start .args .tags .now) (start .args .i) (start .pre .1 .1) (c .out-of-order .ensures))
 
-returns-4 : tie.Need-returns-4
-returns-4 c = sym (past-9 (c .before) ∙ rule-broken _ _ _ (c .if4 .taken))
-
 returns-5 : tie.Need-returns-5
-returns-5 c = sym (past-9 (c .before) ∙ rule-kept _ _ _ (c .if4 .left) ∙ decide-none _)
+returns-5 c = sym (past-9 (c .before) ∙ rule-broken _ _ _ (c .if5 .taken))
+
+returns-6 : tie.Need-returns-6
+returns-6 c = sym (past-9 (c .before) ∙ rule-kept _ _ _ (c .if5 .left) ∙ decide-none _)
 
 pub fragment-fault-spec : {M : Type 1} → statement M
 fragment-fault-spec =
@@ -103,10 +123,11 @@ fragment-fault-spec =
     (λ c κs. search needs)
     returns
     (λ c κs. search needs)
-    sub-if2
+    sub-span
     returns-2
-    (λ c κs. search needs)
     returns-3
     (λ c κs. search needs)
     returns-4
-    returns-5)
+    (λ c κs. search needs)
+    returns-5
+    returns-6)
