@@ -15,10 +15,12 @@ static bool tag_repeats(const uint32_t *tags, size_t i) {
     return false;
 }
 
-// Fragment i by 6, 4, 9, 13. `last` is the order of the fragment before it, and then its own.
+// Fragment i by 6, 17, 4, 9, 13. `last` is the order of the fragment before it, and then its own.
 static outcome fragment_fault(size_t n, const uint8_t *row, const uint32_t *tags, size_t i, uint64_t *last) {
     if (any_unknown(n, row)) return refused(6, i);
-    size_t start = first_call(n, row), end = past_calls(n, row);
+    size_t end = past_calls(n, row);
+    if (end == 0) return refused(17, i);
+    size_t start = first_call(n, row);
     if (end - start > CELLS) return refused(4, i);
     if (tag_repeats(tags, i)) return refused(9, i);
     uint64_t order = order_of(start, tags[i]);

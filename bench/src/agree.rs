@@ -96,7 +96,7 @@ pub fn agree_on_all(all: &All) -> Result<String, String> {
 mod tests {
     use super::*;
     use crate::rules;
-    use crate::tables::table;
+    use crate::tables::{table, MOST};
     use std::collections::BTreeSet;
     use std::sync::OnceLock;
 
@@ -135,7 +135,7 @@ mod tests {
             assert_eq!(refusals(service), [4, 5, 6, 7, 8, 9, 13]);
         }
         assert_eq!(refusals(Service::C), [4, 5, 6, 7, 9, 12, 13]);
-        assert_eq!(refusals(Service::Pack), [4, 6, 9, 13]);
+        assert_eq!(refusals(Service::Pack), [4, 6, 9, 13, 17]);
         assert_eq!(refusals(Service::Find), []);
     }
 
@@ -145,6 +145,16 @@ mod tests {
             let fault = rules::fault(request.service, &rules::fragments(request));
             assert_eq!(refusal(outcome), fault, "{request}");
         }
+    }
+
+    #[test]
+    fn pack_refuses_a_fragment_without_calls_wherever_it_stands() {
+        const LAST: usize = MOST - 1;
+        let asked = outcomes().iter().filter(|(request, _)| request.form == Form::Uncalled);
+        let refused: BTreeSet<_> = asked.map(|(_, outcome)| refusal(*outcome).expect("it is refused")).collect();
+        assert!(refused.iter().all(|&(number, _)| number == 17), "{refused:?}");
+        let places: Vec<usize> = refused.into_iter().map(|(_, place)| place).collect();
+        assert!(matches!(places[..], [0, _, .., LAST]), "{places:?}");
     }
 
     /// The outcome of all for a sound table.
@@ -195,21 +205,32 @@ mod tests {
         }
     }
 
+    fn pack(n: usize, cells: usize, tags: usize, table: usize) -> Outcome {
+        resized(Service::Pack, |columns, buffers| {
+            *columns = n;
+            buffers.cells.resize(cells);
+            buffers.tags.resize(tags);
+            buffers.table.resize(table);
+        })
+    }
+
     #[test]
     fn every_rule_of_the_sizes_refuses_in_pack() {
-        let pack = |n, cells, tags, table| {
-            resized(Service::Pack, |columns, buffers| {
-                *columns = n;
-                buffers.cells.resize(cells);
-                buffers.tags.resize(tags);
-                buffers.table.resize(table);
-            })
-        };
         assert_eq!(pack(129, 0, 129, 0), Outcome::Refused(3, 0));
         assert_eq!(pack(128, 129 * 128 - 1, 129, 0), Outcome::Refused(1, 0));
         assert_eq!(pack(0, 1, 0, 0), Outcome::Refused(1, 0));
         assert_eq!(pack(128, 129 * 128, 129, 0), Outcome::Refused(2, 0));
         assert_eq!(pack(128, 128 * 128, 128, 4095), Outcome::Refused(11, 0));
         assert_eq!(pack(128, 128 * 128, 128, 4097), Outcome::Refused(11, 0));
+    }
+
+    #[test]
+    fn no_fragment_has_a_call_without_columns() {
+        assert_eq!(pack(0, 0, 129, 129 * 32), Outcome::Refused(2, 0));
+        assert_eq!(pack(0, 0, 1, 31), Outcome::Refused(11, 0));
+        assert_eq!(pack(0, 0, 1, 32), Outcome::Refused(17, 0));
+        assert_eq!(pack(0, 0, 128, 4096), Outcome::Refused(17, 0));
+        assert_eq!(pack(0, 0, 0, 0), Outcome::Accepted(0));
+        assert_eq!(pack(128, 0, 0, 0), Outcome::Accepted(0));
     }
 }

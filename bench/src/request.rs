@@ -6,17 +6,19 @@ use crate::services::{Call, Service};
 use crate::tables::{self, Kind, Table, A, CELLS, MOST};
 use haplotypes::RECORD;
 use std::fmt;
+use std::ops::Range;
 
 const HOLE: u8 = 0;
 const NO_CALL: u8 = 3;
 
-/// The rules that a record can break, and a row of cells that is to be packed, in the order in which they are tested.
+/// The rules that a record can break, in the order in which they are tested.
 const OF_RECORDS: [u8; 7] = [4, 5, 6, 7, 8, 9, 13];
-const OF_ROWS: [u8; 4] = [6, 4, 9, 13];
+/// Those of a row of cells that is to be packed: of one without calls, which reaches over no column, and of one with.
+const OF_ROWS: [[u8; 4]; 2] = [[6, 17, 9, 13], [6, 4, 9, 13]];
 
 #[derive(Clone, Copy, PartialEq, Eq, Debug)]
 pub enum Form {
-    /// The table itself. Find looks for the tag of its last record.
+    /// The table itself, or for pack its cells with a call in each fragment. Find looks for the tag of its last record.
     Sound,
     /// Find looks for a tag that no record has.
     Absent,
@@ -28,8 +30,11 @@ pub enum Form {
     Repeated,
     /// A fragment and the one before it are in each other's place.
     Swapped,
-    /// A fragment breaks one of the rules and all later ones, and the last fragment the first rule.
+    /// A fragment breaks one of the rules and all later ones, and the last fragment the first rule, or for pack the
+    /// first or the second.
     Broken,
+    /// For pack: a fragment has no call, or none has.
+    Uncalled,
 }
 
 impl Form {
@@ -37,7 +42,7 @@ impl Form {
         use Form::*;
         match service {
             Service::Find => &[Sound, Absent, Changed, Miscalled, Repeated, Swapped, Broken],
-            Service::Pack => &[Sound, Changed, Repeated, Swapped, Broken],
+            Service::Pack => &[Sound, Changed, Repeated, Swapped, Broken, Uncalled],
             _ => &[Sound, Changed, Miscalled, Repeated, Swapped, Broken],
         }
     }
@@ -69,7 +74,7 @@ impl Request {
         let table = tables::table(self.kind, self.seed);
         match self.service {
             Service::Pack => {
-                buffers.cells.lent().copy_from_slice(&table.cells);
+                buffers.cells.lent().copy_from_slice(&table.called_cells());
                 buffers.tags.lent().copy_from_slice(&table.tags);
             }
             _ => buffers.table.lent().copy_from_slice(&table.records),
@@ -109,19 +114,42 @@ impl Request {
             (Form::Swapped, Service::Pack) => swap_rows(cells, tags, 1 + random.below(MOST - 1)),
             (Form::Swapped, _) => swap(table, RECORD, 1 + random.below(MOST - 1)),
             (Form::Broken, Service::Pack) => {
-                break_row(cells, tags, broken_at(random), self.rules_from_one(&OF_ROWS));
-                cells[MOST * (MOST - 1)] = NO_CALL;
+                let rules = &OF_ROWS[self.seed as usize % 2];
+                break_row(cells, tags, broken_at(random), self.rules_from_one(rules));
+                let last = &mut cells[MOST * (MOST - 1)..];
+                last.fill(HOLE);
+                last[0] = [HOLE, NO_CALL][random.below(2)];
             }
             (Form::Broken, _) => {
                 break_record(table, broken_at(random), self.rules_from_one(&OF_RECORDS));
                 table[RECORD * (MOST - 1) + 6] = CELLS as u8 + 1;
             }
+            (Form::Uncalled, _) => {
+                let Range { start, end } = self.uncalled(random);
+                cells[MOST * start..MOST * end].fill(HOLE);
+            }
         }
     }
 
-    /// The rules from one of them on, which is another for the next kind or seed.
+    /// A number below a bound, which is another for the next kind or seed.
+    fn turn(&self, bound: usize) -> usize {
+        (self.kind as usize + self.seed as usize) % bound
+    }
+
+    /// The rules from one of them on.
     fn rules_from_one<'a>(&self, rules: &'a [u8]) -> &'a [u8] {
-        &rules[(self.kind as usize + self.seed as usize) % rules.len()..]
+        &rules[self.turn(rules.len())..]
+    }
+
+    /// The first fragment, one between, the last, or all.
+    fn uncalled(&self, random: &mut Random) -> Range<usize> {
+        let between = 1 + random.below(MOST - 2);
+        match self.turn(4) {
+            0 => 0..1,
+            1 => between..between + 1,
+            2 => MOST - 1..MOST,
+            _ => 0..MOST,
+        }
     }
 }
 
@@ -174,7 +202,9 @@ fn break_row(cells: &mut [u8], tags: &mut [u32], i: usize, rules: &[u8]) {
     tags[i] = tags[0];
     let row = &mut cells[MOST * i..MOST * (i + 1)];
     row.fill(HOLE);
-    row[0] = A;
+    if !broken(17) {
+        row[0] = A;
+    }
     if broken(4) {
         row[CELLS] = A;
     }
@@ -194,6 +224,7 @@ impl fmt::Display for Request {
             Form::Repeated => out.write_str(", a tag repeated"),
             Form::Swapped => out.write_str(", two fragments swapped"),
             Form::Broken => out.write_str(", several rules broken"),
+            Form::Uncalled => out.write_str(", calls left out"),
         }
     }
 }

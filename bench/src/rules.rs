@@ -16,7 +16,7 @@ pub struct Fragment {
     start: usize,
     end: usize,
     tag: u32,
-    /// the rules that it breaks whatever the others are
+    /// the rules that it breaks whatever the others are, those of other services among them
     broken: Vec<u8>,
 }
 
@@ -44,6 +44,7 @@ fn of_record(record: &[u8]) -> Fragment {
         (6, codes.contains(&3)),
         (7, codes.first() == Some(&0) || codes.last() == Some(&0)),
         (8, is_gapped(codes)),
+        (17, span == 0),
     ]);
     Fragment { start, end: start + span, tag, broken }
 }
@@ -51,7 +52,7 @@ fn of_record(record: &[u8]) -> Fragment {
 fn of_row(cells: &[u8], tag: u32) -> Fragment {
     let called: Vec<usize> = (0..cells.len()).filter(|&column| is_call(cells[column])).collect();
     let (start, end) = (called.first().copied().unwrap_or(0), called.last().map_or(0, |last| last + 1));
-    let broken = numbers(&[(6, cells.iter().any(|&code| code > 2)), (4, end - start > CELLS)]);
+    let broken = numbers(&[(6, cells.iter().any(|&code| code > 2)), (17, called.is_empty()), (4, end - start > CELLS)]);
     Fragment { start, end, tag, broken }
 }
 
@@ -71,7 +72,7 @@ pub fn fragments(request: Request) -> Vec<Fragment> {
 fn rules(service: Service) -> &'static [u8] {
     match service {
         Service::Find => &[],
-        Service::Pack => &[6, 4, 9, 13],
+        Service::Pack => &[6, 17, 4, 9, 13],
         Service::S | Service::F => &[4, 5, 6, 7, 8, 9, 13],
         _ => &[4, 5, 6, 7, 9, 13],
     }
@@ -93,10 +94,15 @@ fn is_broken(fragments: &[Fragment], i: usize, rule: u8, early: Early) -> bool {
     }
 }
 
-/// The first fragment that breaks a rule, and the first of the rules that it breaks.
+/// Of each fragment that breaks a rule, in order, the first of the rules that it breaks.
+fn faults<'a>(fragments: &'a [Fragment], rules: &'a [u8], early: Early) -> impl Iterator<Item = Fault> + 'a {
+    let broken = move |i| rules.iter().find(|&&rule| is_broken(fragments, i, rule, early)).map(|&rule| (rule, i));
+    (0..fragments.len()).filter_map(broken)
+}
+
+/// That of the first such fragment.
 fn first(fragments: &[Fragment], rules: &[u8], early: Early) -> Option<Fault> {
-    let broken = |i| rules.iter().find(|&&rule| is_broken(fragments, i, rule, early)).map(|&rule| (rule, i));
-    (0..fragments.len()).find_map(broken)
+    faults(fragments, rules, early).next()
 }
 
 /// The lowest column that too many fragments cover, holes included, where the service is C.
@@ -123,13 +129,13 @@ fn wrong(name: impl ToString, fault: impl Fn(&[Fragment]) -> Option<Fault> + 'st
     Wrong { name: name.to_string(), fault: Box::new(fault) }
 }
 
-/// Every rule left out, and every two neighbours exchanged.
+/// Every rule left out, and every two neighbours exchanged but 17 and 4: no fragment breaks both, so nothing tells.
 fn wrong_lists(rules: &'static [u8]) -> Vec<Wrong> {
     let without = (0..rules.len()).map(|k| {
         let rest = [&rules[..k], &rules[k + 1..]].concat();
         wrong(format!("no {}", rules[k]), move |fragments| first(fragments, &rest, is_early))
     });
-    let exchanged = (1..rules.len()).map(|k| {
+    let exchanged = (1..rules.len()).filter(|&k| rules[k - 1..=k] != [17, 4]).map(|k| {
         let mut other = rules.to_vec();
         other.swap(k - 1, k);
         wrong(format!("{} before {}", rules[k], rules[k - 1]), move |fragments| first(fragments, &other, is_early))
@@ -138,7 +144,7 @@ fn wrong_lists(rules: &'static [u8]) -> Vec<Wrong> {
 }
 
 /// Rule 13 by another order, or by another fragment than the one before.
-const WRONG_ORDERS: [(&str, Early); 10] = [
+const WRONG_ORDERS: [(&str, Early); 9] = [
     ("start alone", |fragments, i| fragments[i].start < fragments[i - 1].start),
     ("tag alone", |fragments, i| fragments[i].tag < fragments[i - 1].tag),
     ("start or tag", |fragments, i| {
@@ -158,10 +164,6 @@ const WRONG_ORDERS: [(&str, Early); 10] = [
     }),
     ("start and a signed tag", |fragments, i| {
         let place = |i: usize| (fragments[i].start, fragments[i].tag as i32);
-        place(i) < place(i - 1)
-    }),
-    ("start and tag, the fragments without calls last", |fragments, i| {
-        let place = |i: usize| (fragments[i].end == 0, fragments[i].start, fragments[i].tag);
         place(i) < place(i - 1)
     }),
     ("start and tag of the first fragment", |fragments, i| {
@@ -191,6 +193,70 @@ fn wrong_ways(rules: &'static [u8]) -> Vec<Wrong> {
     ]
 }
 
+/// Pack's list with 4 or 17 moved to where no exchange of neighbours puts it, as the other of them is its neighbour.
+const WRONG_MOVES: [(&str, [u8; 5]); 3] =
+    [("4 before 6", [4, 6, 17, 9, 13]), ("17 after 9", [6, 4, 9, 17, 13]), ("17 after 13", [6, 4, 9, 13, 17])];
+
+/// Rule 17 by something else than that there is no call.
+const WRONG_CALLS: [(&str, fn(&Fragment) -> bool); 4] = [
+    ("a start of 0", |fragment| fragment.start == 0),
+    ("a span of at most 1", |fragment| fragment.end - fragment.start <= 1),
+    ("no call after column 0", |fragment| fragment.end <= 1),
+    ("no call before the last column", |fragment| fragment.end == 0 || fragment.start == MOST - 1),
+];
+
+/// Fragments with another rule 17.
+fn uncalled_by(fragments: &[Fragment], uncalled: fn(&Fragment) -> bool) -> Vec<Fragment> {
+    let other = |fragment: &Fragment| {
+        let mut broken = fragment.broken.clone();
+        broken.retain(|&rule| rule != 17);
+        broken.extend(uncalled(fragment).then_some(17));
+        Fragment { broken, ..*fragment }
+    };
+    fragments.iter().map(other).collect()
+}
+
+/// A fragment that 17 refuses before or after all others, or not at its place.
+fn wrong_ways_to_17(rules: &'static [u8]) -> [Wrong; 3] {
+    let before = move |fragments: &[Fragment]| {
+        faults(fragments, rules, is_early).min_by_key(|&(number, place)| (number != 17, place))
+    };
+    let after = move |fragments: &[Fragment]| {
+        faults(fragments, rules, is_early).min_by_key(|&(number, place)| (number == 17, place))
+    };
+    let placeless = move |fragments: &[Fragment]| match first(fragments, rules, is_early) {
+        Some((17, _)) => Some((17, 0)),
+        fault => fault,
+    };
+    [
+        wrong("17 before an earlier fragment's rules", before),
+        wrong("17 after a later fragment's rules", after),
+        wrong("17 at place 0", placeless),
+    ]
+}
+
+/// Wrong about fragments without calls in pack, which refuses them.
+fn wrong_in_pack(rules: &'static [u8]) -> Vec<Wrong> {
+    let moves = WRONG_MOVES.map(|(name, list)| wrong(name, move |fragments| first(fragments, &list, is_early)));
+    let calls = WRONG_CALLS.map(|(name, uncalled)| {
+        wrong(format!("17 by {name}"), move |fragments| first(&uncalled_by(fragments, uncalled), rules, is_early))
+    });
+    moves.into_iter().chain(calls).chain(wrong_ways_to_17(rules)).collect()
+}
+
+/// Wrong about fragments without calls in a service that reads them. Pack refuses them, and so does not order them.
+fn wrong_in_reading(rules: &'static [u8]) -> Vec<Wrong> {
+    let last: Early = |fragments, i| {
+        let place = |i: usize| (fragments[i].end == 0, fragments[i].start, fragments[i].tag);
+        place(i) < place(i - 1)
+    };
+    let refusing = [rules, &[17]].concat();
+    vec![
+        wrong("13 by start and tag, the fragments without calls last", move |fragments| first(fragments, rules, last)),
+        wrong("17 too", move |fragments| first(fragments, &refusing, is_early)),
+    ]
+}
+
 /// Rules of a service that are wrong in one way each.
 pub fn wrong_rules(service: Service) -> Vec<Wrong> {
     let rules = rules(service);
@@ -199,7 +265,8 @@ pub fn wrong_rules(service: Service) -> Vec<Wrong> {
     }
     let orders = WRONG_ORDERS
         .map(|(name, early)| wrong(format!("13 by {name}"), move |fragments| first(fragments, rules, early)));
-    let of_fragments = wrong_lists(rules).into_iter().chain(orders).chain(wrong_ways(rules));
+    let of_calls = if service == Service::Pack { wrong_in_pack(rules) } else { wrong_in_reading(rules) };
+    let of_fragments = wrong_lists(rules).into_iter().chain(orders).chain(wrong_ways(rules)).chain(of_calls);
     let mut all: Vec<Wrong> = of_fragments
         .map(|Wrong { name, fault }| {
             wrong(name, move |fragments| fault(fragments).or_else(|| too_deep(service, fragments)))

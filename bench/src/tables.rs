@@ -163,9 +163,17 @@ pub struct Table {
     pub tags: Vec<u32>,
 }
 
-#[cfg(test)]
 impl Table {
+    /// The cells as pack takes them: a fragment without calls has one at column 0, so that its start stays.
+    pub fn called_cells(&self) -> Vec<u8> {
+        let mut cells = self.cells.clone();
+        let uncalled = cells.chunks_mut(MOST).filter(|row| row.iter().all(|&code| code == 0));
+        uncalled.for_each(|row| row[0] = A);
+        cells
+    }
+
     /// The lowest column for which `counts` says yes of the cells of over 8 fragments.
+    #[cfg(test)]
     pub fn first_deep(&self, counts: impl Fn(&[u8], usize) -> bool) -> Option<usize> {
         (0..MOST).find(|&column| self.cells.chunks(MOST).filter(|cells| counts(cells, column)).count() > DEPTH)
     }
@@ -349,6 +357,18 @@ mod tests {
             for cells in table(kind, 1).cells.chunks(MOST) {
                 let mates = cells.split(|&code| code == 0).filter(|calls| !calls.is_empty());
                 assert_eq!(mates.count(), 2, "{kind}");
+            }
+        }
+    }
+
+    #[test]
+    fn pack_is_given_one_call_more_where_there_is_none() {
+        for kind in Kind::ALL {
+            let table = table(kind, 1);
+            let given = table.called_cells();
+            for (given, cells) in given.chunks(MOST).zip(table.cells.chunks(MOST)) {
+                let expected = if cells == [0; MOST] { [&[A][..], &[0; MOST - 1]].concat() } else { cells.to_vec() };
+                assert_eq!(given, expected, "{kind}");
             }
         }
     }

@@ -130,7 +130,7 @@ const ROWS: [(Service, &[Kind]); 8] = {
     use Kind::*;
     [
         (Service::Unpack, &[Typical, Full, Empty, Mates]),
-        (Service::Pack, &[Typical, Full, Empty, Mates]),
+        (Service::Pack, &[Typical, Full, Single, Mates]),
         (Service::Find, &[Typical]),
         (Service::Check, &[Typical, Random, Clean, Uniform, Empty, Single, Mates]),
         (Service::S, &[Typical, Random, Clean, Full, Shallow]),

@@ -26,11 +26,13 @@ fn accepted() -> impl Iterator<Item = Request> {
     sound().filter(Request::must_be_accepted)
 }
 
-/// Every service that refuses, on a tag twice, on fragments out of order, and on mate pairs if it does not take them.
+/// Every service that refuses, on a tag twice, on fragments out of order, and on mate pairs if it does not take them;
+/// pack also on a fragment without calls, in order.
 fn refused() -> impl Iterator<Item = Request> {
     let forms = [Form::Repeated, Form::Swapped].into_iter();
     let requests = forms.flat_map(|form| Service::ALL.map(|service| request(service, Kind::Shallow, form)));
-    requests.chain(sound()).filter(|request| !request.must_be_accepted())
+    let uncalled = request(Service::Pack, Kind::Front, Form::Uncalled);
+    requests.chain(sound()).chain([uncalled]).filter(|request| !request.must_be_accepted())
 }
 
 fn see(noticed: Result<(), String>, name: &str, request: Request) {
