@@ -10,7 +10,7 @@
  *
  * Cell i stands in byte 8 + i / 4, at the two bits from bit 2 * (i % 4) on, and belongs to column start + i. The span's first and last cells are
  * calls, and those after it 0. Two mates are one fragment, with holes between them, which all services but S and F take. A fragment without calls
- * has span 0 and start 0.
+ * has span 0 and start 0; stored tables may have it, and all services take it but pack, which does not write it.
  *
  * Records rise by start, and at one start by tag, as 32-bit numbers. A fragment without calls stands by its tag among those at start 0.
  *
@@ -43,7 +43,7 @@
  *   unpack, check, conflict_counts   3, 1, 2, 11; then the records from 0 on, each by 4, 5, 6, 7, 9, 13
  *   S, F                             3, 1, 2, 10, 11; then the records from 0 on, each by 4, 5, 6, 7, 8, 9, 13
  *   C                                3, 1, 2, 10, 11; then the records as for check; then 12
- *   pack                             3, 1, 2, 11; then the fragments from 0 on, each by 6, 4, 9, 13
+ *   pack                             3, 1, 2, 11; then the fragments from 0 on, each by 6, 17, 4, 9, 13
  *   find                             refuses nothing
  */
 #ifndef PIKONDAUR_HAPLOTYPES_H
@@ -73,7 +73,7 @@ enum {
     HAPLOTYPES_REMOVED_BLOCK = 255
 };
 
-/* The refusals by their numbers. The place is the fragment's position for 4 to 9 and 13, the lowest such column for 12, and else 0. */
+/* The refusals by their numbers. The place is the fragment's position for 4 to 9, 13 and 17, the lowest such column for 12, and else 0. */
 enum {
     HAPLOTYPES_ACCEPTED = 0,            /* none */
     HAPLOTYPES_RAGGED = 1,              /* bytes not a multiple of 32; for pack, cells not m * n */
@@ -88,7 +88,8 @@ enum {
     HAPLOTYPES_SHORT_WORK = 10,         /* work under 32768 numbers */
     HAPLOTYPES_WRONG_BUFFER = 11,       /* an output's length is not exact */
     HAPLOTYPES_TOO_DEEP = 12,           /* by C alone: over 8 fragments whose stretch from first to last call covers a column */
-    HAPLOTYPES_OUT_OF_ORDER = 13        /* a start below that of the fragment before, or the same start and a lower tag */
+    HAPLOTYPES_OUT_OF_ORDER = 13,       /* a start below that of the fragment before, or the same start and a lower tag */
+    HAPLOTYPES_NO_CALLS = 17            /* by pack alone: a fragment without calls */
 };
 
 /* The bytes of stack that must be free below the caller's frame: what was measured on full tables, with some room. host/stack/test measures
@@ -120,14 +121,15 @@ typedef uint64_t haplotypes_count;   /* what unpack, pack, conflict_counts, S, F
 #define HAPLOTYPES_SERVICE
 #endif
 
-/* The table's m * n cells, one byte each by fragment and then column, and its m tags. Returns m.
+/* The table's m * n cells, one byte each by fragment and then column, and its m tags. Returns m. A record without calls gives n holes, which pack
+ * will not write again (17).
  * Exact: cells_length is m * n and tags_length is m, or the call is refused (11). */
 HAPLOTYPES_SERVICE haplotypes_count haplotypes_unpack(size_t n, const uint8_t *table, size_t table_length,
                                                       uint8_t *cells, size_t cells_length, uint32_t *tags, size_t tags_length);
 
-/* The table of m fragments, m being tags_length, from their cells and tags: the reverse of unpack. Returns m.
- * Exact: cells_length is m * n, or the call is refused (1), and table_length is 32 * m (11). The fragments are given in the order of the records
- * (13): they rise by their first called column, 0 without calls, and then by tag. */
+/* The table of m fragments, m being tags_length, from their cells and tags: the reverse of unpack, for tables in which every span is over 0. Returns m.
+ * Exact: cells_length is m * n, or the call is refused (1), and table_length is 32 * m (11). Each fragment has a call (17). The fragments are given in
+ * the order of the records (13): they rise by their first called column, and then by tag. */
 HAPLOTYPES_SERVICE haplotypes_count haplotypes_pack(size_t n, const uint8_t *cells, size_t cells_length,
                                                     const uint32_t *tags, size_t tags_length, uint8_t *table, size_t table_length);
 

@@ -14,6 +14,7 @@
 #define REFUSED(number, place) ((UINT64_C(1) << 32) * (number) + (place))
 #define CHECK_REFUSED(number, place) (1000 * (number) + (place))
 #define RECORD(tag, start, span, cells) {tag, 0, 0, 0, start, 0, span, 0, cells} /* the first four cells in a byte */
+#define TAGGED(a, b, c, d) {a, b, c, d, 0, 0, 1, 0, 1} /* A on column 0, under a tag of four bytes */
 
 struct row {
     const char *name;
@@ -67,14 +68,18 @@ static const uint8_t far_error[][32] = {RECORD(1, 0, 4, 0x41), RECORD(2, 0, 4, 0
 static const uint8_t far_error_c[] = {1, 1, 1, 1, 1, 0, 0, 1, 2, 0, 0, 0, 1, 1, 2, 0, 0, 0}; /* 1111 A--A B--- 112 0,0,0 */
 static const uint8_t far_error_corrected[][32] = {RECORD(1, 0, 4, 0x41), RECORD(2, 0, 4, 0x41), RECORD(3, 0, 1, 0x02)};
 
-static const uint8_t wide_tags[][32] = {{0xEF, 0xCD, 0xAB, 0x89}, {0xFF, 0xFF, 0xFF, 0xFF}};
+static const uint8_t wide_tags[][32] = {TAGGED(0xEF, 0xCD, 0xAB, 0x89), TAGGED(0xFF, 0xFF, 0xFF, 0xFF)};
 static const uint32_t wide_tags_read[] = {0x89ABCDEF, 0xFFFFFFFF};
+static const uint8_t a_cells[] = {1, 1, 1, 1, 1, 1}; /* the cells of up to six fragments A */
+static const uint8_t no_columns[][32] = {RECORD(1, 0, 0, 0), RECORD(2, 0, 0, 0)};
+static const uint8_t no_columns_answer[] = {1, 1, 0, 1}; /* . . . 11 0,1 */
 
 /* in order: tags that rise while their low bytes fall, and up to and over the high bit; A-, -A, -B, of which the first has the highest tag; fragments
  * without calls before, between and after A and B, by their tags */
-static const uint8_t rising_tags[][32] = {{0xFF}, {0, 1}, {0xFF, 0xFF}, {0, 0, 1}, {0xFF, 0xFF, 0xFF, 0x7F}, {0, 0, 0, 0x80}};
+static const uint8_t rising_tags[][32] = {TAGGED(0xFF, 0, 0, 0), TAGGED(0, 1, 0, 0),             TAGGED(0xFF, 0xFF, 0, 0),
+                                          TAGGED(0, 0, 1, 0),    TAGGED(0xFF, 0xFF, 0xFF, 0x7F), TAGGED(0, 0, 0, 0x80)};
 static const uint32_t rising_tags_read[] = {0xFF, 0x100, 0xFFFF, 0x10000, 0x7FFFFFFF, 0x80000000};
-static const uint8_t rising_tags_answer[] = {1, 1, 1, 1, 1, 1, 0, 1, 2, 3, 4, 5}; /* . . . 111111 0,1,2,3,4,5 */
+static const uint8_t rising_tags_answer[] = {1, 1, 0, 1, 1, 1, 1, 1, 1, 0, 1, 2, 3, 4, 5}; /* 1 A - 111111 0,1,2,3,4,5 */
 static const uint8_t rising_start[][32] = {RECORD(3, 0, 1, 1), RECORD(1, 1, 1, 1), RECORD(2, 1, 1, 2)};
 static const uint8_t rising_start_cells[] = {1, 0, 0, 1, 0, 2};
 static const uint32_t rising_start_tags[] = {3, 1, 2};
@@ -100,8 +105,9 @@ static const uint8_t twice[][32] = {RECORD(1, 0, 1, 1), RECORD(1, 0, 1, 2)};
 static const uint8_t falling_tags[][32] = {RECORD(2, 0, 1, 1), RECORD(1, 0, 1, 2)};                      /* A, B */
 static const uint8_t falling_tags_later[][32] = {RECORD(2, 1, 1, 1), RECORD(1, 1, 1, 2)};                /* -A, -B */
 static const uint8_t falling_start[][32] = {RECORD(1, 1, 1, 1), RECORD(2, 0, 1, 1)};                     /* -A, A- */
-static const uint8_t falling_numbers[][32] = {{0, 1}, {0xFF}};                                           /* 256 and 255 */
-static const uint8_t falling_high_bits[][32] = {{0, 0, 0, 0x80}, {0xFF, 0xFF, 0xFF, 0x7F}};              /* 2^31 and one less */
+static const uint8_t falling_numbers[][32] = {TAGGED(0, 1, 0, 0), TAGGED(0xFF, 0, 0, 0)};                /* 256 and 255 */
+static const uint8_t falling_high_bits[][32] = {TAGGED(0, 0, 0, 0x80), TAGGED(0xFF, 0xFF, 0xFF, 0x7F)};  /* 2^31 and one less */
+static const uint8_t falling_no_columns[][32] = {RECORD(2, 0, 0, 0), RECORD(1, 0, 0, 0)};
 static const uint8_t empty_after_tag[][32] = {RECORD(5, 0, 1, 1), RECORD(3, 0, 0, 0)};                   /* A, - */
 static const uint8_t empty_after_start[][32] = {RECORD(1, 1, 1, 1), RECORD(2, 0, 0, 0)};                 /* -A, -- */
 static const uint8_t after_first[][32] = {RECORD(1, 0, 1, 1), RECORD(2, 2, 1, 1), RECORD(3, 1, 1, 1)};   /* A--, --A, -A- */
@@ -110,16 +116,24 @@ static const uint8_t falling_first[][32] = {RECORD(2, 0, 1, 1), RECORD(1, 0, 1, 
 static const uint8_t falling_again[][32] = {RECORD(1, 0, 1, 1), RECORD(2, 1, 1, 1), RECORD(1, 0, 1, 1)}; /* A-, -A, A-, with the first tag */
 static const uint8_t falling_byte_7[][32] = {RECORD(1, 1, 1, 1), {2, 0, 0, 0, 0, 0, 1, 1, 1}};           /* -A, A- */
 
+/* a fragment without calls, which pack alone refuses, beside what every service does */
+static const uint8_t empty_twice[][32] = {RECORD(1, 0, 1, 1), RECORD(1, 0, 0, 0)};                             /* A, -, with one tag */
+static const uint8_t empty_between_twice[][32] = {RECORD(1, 0, 1, 1), RECORD(2, 0, 0, 0), RECORD(1, 0, 1, 1)}; /* A, -, A, with the first tag */
+static const uint8_t empty_after_twice[][32] = {RECORD(1, 0, 1, 1), RECORD(1, 0, 1, 1), RECORD(2, 0, 0, 0)};   /* A, A, with one tag, - */
+static const uint8_t empty_after_falling[][32] = {RECORD(2, 0, 1, 1), RECORD(1, 0, 1, 1), RECORD(3, 0, 0, 0)}; /* A, A, - */
+
 static const uint8_t unknown_cells[] = {1, 1, 0, 2, 3, 1, 0, 2, 2};
+static const uint8_t unknown_around_empty_cells[] = {0, 4, 0, 0, 0, 0, 0, 0, 3}; /* no fragment has a call */
 static const uint8_t falling_unknown_cells[] = {0, 0, 1, 3, 1, 0, 0, 1, 1}, falling_before_unknown_cells[] = {0, 1, 0, 1, 0, 0, 3, 0, 0};
 static const uint32_t same_tags[] = {10, 11, 10};
 
 static const uint8_t no_conflicts[128 * 128] = {0}; /* the counts of up to 128 fragments */
 
-/* made at the start: 129 fragments A at column 0, the answer of 128 of them for 1 and for 128 columns; these 128, the last two exchanged; a row of a call
- * at column 96 and one of calls at 97 columns; 128 fragments that call columns 32 to 127, As and Bs by turns, and their counts */
-static uint8_t crowd[129][32], crowd_answer[3 + 256], wide_crowd_answer[3 * 128 + 256], falling_crowd[128][32], long_rows[2][97];
-static uint8_t turns[128][32], turns_counts[128 * 128];
+/* made at the start: 129 fragments A at column 0, the answer of 128 of them for 1 and for 128 columns; these 128, the last two exchanged, and the last
+ * without its call; rows of a call at column 96, of calls at 97 columns, of none, and again of calls at 97 columns; 128 fragments that call columns 32 to
+ * 127, As and Bs by turns, and their counts */
+static uint8_t crowd[129][32], crowd_answer[3 + 256], wide_crowd_answer[3 * 128 + 256], falling_crowd[128][32], empty_last_crowd[128][32];
+static uint8_t long_rows[4][97], turns[128][32], turns_counts[128 * 128];
 
 /* made at the start too: 8 fragments A-A, their answer, and after them -A-; a fragment of A at column 32 and B at column 127, its cells and its answer */
 static uint8_t stretches[9][32], stretches_answer[3 * 3 + 16], far_apart[1][32], far_apart_cells[128], far_apart_answer[3 * 128 + 2];
@@ -167,8 +181,11 @@ static void make_tables(void)
     memcpy(falling_crowd, crowd, sizeof falling_crowd);
     memcpy(falling_crowd[126], crowd[127], 32);
     memcpy(falling_crowd[127], crowd[126], 32);
+    memcpy(empty_last_crowd, crowd, sizeof empty_last_crowd);
+    empty_last_crowd[127][6] = empty_last_crowd[127][8] = 0;
     long_rows[0][96] = 2;
     memset(long_rows[1], 2, sizeof long_rows[1]);
+    memset(long_rows[3], 2, sizeof long_rows[3]);
     for (size_t i = 0; i < COUNT(turns); i++) {
         turns[i][0] = (uint8_t)i;
         turns[i][4] = 32;
@@ -184,39 +201,46 @@ static void make_tables(void)
 static const struct row rows[] = {
     {"unpack", UNPACK, 3, 3, {ALL(printed), NONE}, {ALL(printed_cells), ALL(printed_tags), NONE}},
     {"unpack no records", UNPACK, 0, 0, {NONE, NONE}, {NONE, NONE, NONE}},
-    {"unpack tags of four bytes", UNPACK, 0, 2, {ALL(wide_tags), NONE}, {NONE, ALL(wide_tags_read), NONE}},
+    {"unpack tags of four bytes", UNPACK, 1, 2, {ALL(wide_tags), NONE}, {{a_cells, 2}, ALL(wide_tags_read), NONE}},
+    {"unpack fragments, no columns", UNPACK, 0, 2, {ALL(no_columns), NONE}, {NONE, ALL(mates_tags), NONE}},
     {"unpack the gapped triangle", UNPACK, 3, 3, {ALL(triangle), NONE}, {ALL(triangle_cells), ALL(printed_tags), NONE}},
     {"unpack mates", UNPACK, 3, 2, {ALL(mates), NONE}, {ALL(mates_cells), ALL(mates_tags), NONE}},
     {"unpack mates over 96 columns", UNPACK, 128, 1, {ALL(far_apart), NONE}, {ALL(far_apart_cells), {mates_tags, 4}, NONE}},
-    {"unpack rising tags", UNPACK, 0, 6, {ALL(rising_tags), NONE}, {NONE, ALL(rising_tags_read), NONE}},
+    {"unpack rising tags", UNPACK, 1, 6, {ALL(rising_tags), NONE}, {ALL(a_cells), ALL(rising_tags_read), NONE}},
     {"unpack rising starts", UNPACK, 2, 3, {ALL(rising_start), NONE}, {ALL(rising_start_cells), ALL(rising_start_tags), NONE}},
     {"unpack no calls among others", UNPACK, 1, 5, {ALL(among), NONE}, {ALL(among_cells), ALL(among_tags), NONE}},
 
     {"pack", PACK, 3, 3, {ALL(printed_cells), ALL(printed_tags)}, {ALL(printed), NONE, NONE}},
     {"pack no fragments", PACK, 0, 0, {NONE, NONE}, {NONE, NONE, NONE}},
-    {"pack tags of four bytes", PACK, 0, 2, {NONE, ALL(wide_tags_read)}, {ALL(wide_tags), NONE, NONE}},
+    {"pack tags of four bytes", PACK, 1, 2, {{a_cells, 2}, ALL(wide_tags_read)}, {ALL(wide_tags), NONE, NONE}},
     {"pack 129 columns", PACK, 129, REFUSED(3, 0), {ALL(printed_cells), ALL(printed_tags)}, {LEFT(96), NONE, NONE}},
     {"pack 9 cells for 2 columns", PACK, 2, REFUSED(1, 0), {ALL(printed_cells), ALL(printed_tags)}, {LEFT(96), NONE, NONE}},
     {"pack 129 fragments", PACK, 0, REFUSED(2, 0), {NONE, {work, 4 * 129}}, {LEFT(32 * 129), NONE, NONE}},
     {"pack an unknown call", PACK, 3, REFUSED(6, 1), {ALL(unknown_cells), ALL(printed_tags)}, {LEFT(96), NONE, NONE}},
+    {"pack an unknown call and no other", PACK, 3, REFUSED(6, 0), {ALL(unknown_around_empty_cells), ALL(printed_tags)}, {LEFT(96), NONE, NONE}},
+    {"pack no calls before an unknown call", PACK, 3, REFUSED(17, 0), {{unknown_around_empty_cells + 3, 6}, {printed_tags, 8}}, {LEFT(64), NONE, NONE}},
     {"pack calls over 97 columns", PACK, 97, REFUSED(4, 0), {ALL(long_rows[1]), {printed_tags, 4}}, {LEFT(32), NONE, NONE}},
+    {"pack calls over 97 columns before no calls", PACK, 97, REFUSED(4, 0), {{long_rows[1], 2 * 97}, {printed_tags, 8}}, {LEFT(64), NONE, NONE}},
+    {"pack no calls before calls over 97 columns", PACK, 97, REFUSED(17, 0), {{long_rows[2], 2 * 97}, {printed_tags, 8}}, {LEFT(64), NONE, NONE}},
     {"pack the gapped triangle", PACK, 3, 3, {ALL(triangle_cells), ALL(printed_tags)}, {ALL(triangle), NONE, NONE}},
     {"pack mates", PACK, 3, 2, {ALL(mates_cells), ALL(mates_tags)}, {ALL(mates), NONE, NONE}},
     {"pack mates over 96 columns", PACK, 128, 1, {ALL(far_apart_cells), {mates_tags, 4}}, {ALL(far_apart), NONE, NONE}},
     {"pack a tag twice", PACK, 3, REFUSED(9, 2), {ALL(printed_cells), ALL(same_tags)}, {LEFT(96), NONE, NONE}},
     {"pack a hole and a tag twice", PACK, 3, REFUSED(9, 2), {ALL(triangle_cells), ALL(same_tags)}, {LEFT(96), NONE, NONE}},
-    {"pack rising tags", PACK, 0, 6, {NONE, ALL(rising_tags_read)}, {ALL(rising_tags), NONE, NONE}},
+    {"pack rising tags", PACK, 1, 6, {ALL(a_cells), ALL(rising_tags_read)}, {ALL(rising_tags), NONE, NONE}},
     {"pack rising starts", PACK, 2, 3, {ALL(rising_start_cells), ALL(rising_start_tags)}, {ALL(rising_start), NONE, NONE}},
-    {"pack no calls among others", PACK, 1, 5, {ALL(among_cells), ALL(among_tags)}, {ALL(among), NONE, NONE}},
+    {"pack no calls among others", PACK, 1, REFUSED(17, 0), {ALL(among_cells), ALL(among_tags)}, {LEFT(160), NONE, NONE}},
+    {"pack no calls among others, a wrong table", PACK, 1, REFUSED(11, 0), {ALL(among_cells), ALL(among_tags)}, {LEFT(159), NONE, NONE}},
     {"pack an unknown call, out of order", PACK, 3, REFUSED(6, 1), {ALL(falling_unknown_cells), ALL(printed_tags)}, {LEFT(96), NONE, NONE}},
     {"pack an unknown call after one out of order", PACK, 3, REFUSED(13, 1), {ALL(falling_before_unknown_cells), ALL(printed_tags)}, {LEFT(96), NONE, NONE}},
-    {"pack calls over 97 columns, out of order", PACK, 97, REFUSED(4, 1), {ALL(long_rows), {printed_tags, 8}}, {LEFT(64), NONE, NONE}},
+    {"pack calls over 97 columns, out of order", PACK, 97, REFUSED(4, 1), {{long_rows, 2 * 97}, {printed_tags, 8}}, {LEFT(64), NONE, NONE}},
     {"pack fragments out of order, a wrong table", PACK, 3, REFUSED(11, 0), {ALL(triangle_unordered_cells), ALL(printed_tags)}, {LEFT(95), NONE, NONE}},
 
     {"find the first record", FIND, 10, 0, {ALL(printed), NONE}, {NONE, NONE, NONE}},
     {"find the last record", FIND, 12, 64, {ALL(printed), NONE}, {NONE, NONE, NONE}},
     {"find the first of two", FIND, 1, 0, {ALL(twice), NONE}, {NONE, NONE, NONE}},
     {"find a tag out of order", FIND, 1, 64, {ALL(falling_twice), NONE}, {NONE, NONE, NONE}},
+    {"find a record without calls", FIND, 3, 64, {ALL(among), NONE}, {NONE, NONE, NONE}},
     {"find a tag of four bytes", FIND, 0xFFFFFFFF, 32, {ALL(wide_tags), NONE}, {NONE, NONE, NONE}},
     {"find an absent tag", FIND, 13, 96, {ALL(printed), NONE}, {NONE, NONE, NONE}},
     {"find a tag before a ragged end", FIND, 11, 32, {{printed, 95}, NONE}, {NONE, NONE, NONE}},
@@ -236,7 +260,8 @@ static const struct row rows[] = {
     {"check mates", CHECK, 3, 0, {ALL(mates), NONE}, {ALL(mates_answer), NONE, NONE}},
     {"check mates, an error on the far one", CHECK, 4, 1, {ALL(far_error), NONE}, {LEFT(18), NONE, NONE}},
     {"check mates over 96 columns", CHECK, 128, 0, {ALL(far_apart), NONE}, {ALL(far_apart_answer), NONE, NONE}},
-    {"check rising tags", CHECK, 0, 0, {ALL(rising_tags), NONE}, {ALL(rising_tags_answer), NONE, NONE}},
+    {"check fragments, no columns", CHECK, 0, 0, {ALL(no_columns), NONE}, {ALL(no_columns_answer), NONE, NONE}},
+    {"check rising tags", CHECK, 1, 0, {ALL(rising_tags), NONE}, {ALL(rising_tags_answer), NONE, NONE}},
     {"check rising starts", CHECK, 2, 0, {ALL(rising_start), NONE}, {ALL(rising_start_answer), NONE, NONE}},
     {"check no calls among others", CHECK, 1, 0, {ALL(among), NONE}, {ALL(among_answer), NONE, NONE}},
     {"check a record out of order, a wrong answer", CHECK, 2, CHECK_REFUSED(11, 0), {ALL(falling_start), NONE}, {LEFT(9), NONE, NONE}},
@@ -247,12 +272,12 @@ static const struct row rows[] = {
     {"conflict_counts of opposite", CONFLICT_COUNTS, 2, 2, {ALL(opposite), NONE}, {ALL(opposite_counts), NONE, NONE}},
     {"conflict_counts of apart", CONFLICT_COUNTS, 3, 3, {ALL(apart), NONE}, {{no_conflicts, 9}, NONE, NONE}},
     {"conflict_counts of no records", CONFLICT_COUNTS, 0, 0, {NONE, NONE}, {NONE, NONE, NONE}},
-    {"conflict_counts of fragments, no columns", CONFLICT_COUNTS, 0, 2, {ALL(wide_tags), NONE}, {{no_conflicts, 4}, NONE, NONE}},
+    {"conflict_counts of fragments, no columns", CONFLICT_COUNTS, 0, 2, {ALL(no_columns), NONE}, {{no_conflicts, 4}, NONE, NONE}},
     {"conflict_counts of 128 fragments", CONFLICT_COUNTS, 1, 128, {{crowd, 32 * 128}, NONE}, {ALL(no_conflicts), NONE, NONE}},
     {"conflict_counts of 128 fragments, 128 columns", CONFLICT_COUNTS, 128, 128, {ALL(turns), NONE}, {ALL(turns_counts), NONE, NONE}},
     {"conflict_counts of the gapped triangle", CONFLICT_COUNTS, 3, 3, {ALL(triangle), NONE}, {ALL(triangle_counts), NONE, NONE}},
     {"conflict_counts on both mates", CONFLICT_COUNTS, 3, 2, {ALL(mates), NONE}, {ALL(mates_counts), NONE, NONE}},
-    {"conflict_counts of rising tags", CONFLICT_COUNTS, 0, 6, {ALL(rising_tags), NONE}, {{no_conflicts, 36}, NONE, NONE}},
+    {"conflict_counts of rising tags", CONFLICT_COUNTS, 1, 6, {ALL(rising_tags), NONE}, {{no_conflicts, 36}, NONE, NONE}},
 
     {"S", SNPS, 3, 1, {ALL(printed), NONE}, {ALL(work), ALL(printed_s), NONE}},
     {"S with more work", SNPS, 3, 1, {ALL(printed), NONE}, {ALL(more_work), ALL(printed_s), NONE}},
@@ -283,9 +308,9 @@ static const struct row rows[] = {
     {"C of no calls among others", CORRECTIONS, 1, 0, {ALL(among), NONE}, {ALL(work), ALL(among_answer), ALL(among)}},
 };
 
-/* Tables that are refused, and by whom: every service but pack and find, S and F alone, which take no holes, or the others alone; and whether pack
- * refuses their fragments so too. */
-enum refusing { EVERY, GAPLESS, OTHERS };
+/* Tables that are refused, and by whom: every service but pack and find, S and F alone, which take no holes, the others alone, or none of them; and
+ * whether pack refuses their fragments so. */
+enum refusing { EVERY, GAPLESS, OTHERS, NO_OTHER };
 
 static const struct {
     const char *name;
@@ -317,10 +342,11 @@ static const struct {
     {"falling tags at one start", 1, ALL(falling_tags), 13, 1, EVERY, 1},
     {"falling tags at start 1", 2, ALL(falling_tags_later), 13, 1, EVERY, 1},
     {"a falling start", 2, ALL(falling_start), 13, 1, EVERY, 1},
-    {"falling tags whose low bytes rise", 0, ALL(falling_numbers), 13, 1, EVERY, 1},
-    {"falling tags by the high bit", 0, ALL(falling_high_bits), 13, 1, EVERY, 1},
-    {"no calls and a lower tag at start 0", 1, ALL(empty_after_tag), 13, 1, EVERY, 1},
-    {"no calls after a start of 1", 2, ALL(empty_after_start), 13, 1, EVERY, 1},
+    {"falling tags whose low bytes rise", 1, ALL(falling_numbers), 13, 1, EVERY, 1},
+    {"falling tags by the high bit", 1, ALL(falling_high_bits), 13, 1, EVERY, 1},
+    {"falling tags, no columns", 0, ALL(falling_no_columns), 13, 1, EVERY, 0},
+    {"no calls and a lower tag at start 0", 1, ALL(empty_after_tag), 13, 1, EVERY, 0},
+    {"no calls after a start of 1", 2, ALL(empty_after_start), 13, 1, EVERY, 0},
     {"a record before the second, but not the first", 3, ALL(after_first), 13, 2, EVERY, 1},
     {"two records out of order", 1, ALL(falling_twice), 13, 1, EVERY, 1},
     {"a record out of order before one out of frame", 3, ALL(falling_first), 13, 1, EVERY, 0},
@@ -329,6 +355,19 @@ static const struct {
     {"the gapped triangle, out of order", 3, ALL(triangle_unordered), 8, 2, GAPLESS, 0},
     {"the gapped triangle, out of order", 3, ALL(triangle_unordered), 13, 2, OTHERS, 1},
     {"128 calls in a column, the last out of order", 1, ALL(falling_crowd), 13, 127, EVERY, 1},
+    {"no calls, the tag before", 1, ALL(empty_twice), 9, 1, EVERY, 0},
+    {"no calls before a tag twice", 1, ALL(empty_between_twice), 9, 2, EVERY, 0},
+    {"no calls after a tag twice", 1, ALL(empty_after_twice), 9, 1, EVERY, 1},
+    {"no calls after a record out of order", 1, ALL(empty_after_falling), 13, 1, EVERY, 1},
+    {"no calls, and no columns", 0, ALL(no_columns), 17, 0, NO_OTHER, 1},
+    {"no calls between others", 3, ALL(apart), 17, 1, NO_OTHER, 1},
+    {"no calls after a call", 1, {among[1], 64}, 17, 1, NO_OTHER, 1},
+    {"no calls after 127 calls", 1, ALL(empty_last_crowd), 17, 127, NO_OTHER, 1},
+    {"no calls, falling tags, and no columns", 0, ALL(falling_no_columns), 17, 0, NO_OTHER, 1},
+    {"no calls and a lower tag at start 0", 1, ALL(empty_after_tag), 17, 1, NO_OTHER, 1},
+    {"no calls after a start of 1", 2, ALL(empty_after_start), 17, 1, NO_OTHER, 1},
+    {"no calls, the tag before", 1, ALL(empty_twice), 17, 1, NO_OTHER, 1},
+    {"no calls before a tag twice", 1, ALL(empty_between_twice), 17, 1, NO_OTHER, 1},
 };
 
 /* ---- a case */
@@ -450,9 +489,10 @@ static void test_pack_refusal(size_t i)
 static void test_refused(size_t i)
 {
     static const enum service gapless[] = {SNPS, FRAGMENTS}, others[] = {UNPACK, CHECK, CONFLICT_COUNTS, CORRECTIONS};
-    for (size_t s = 0; refused[i].by != OTHERS && s < COUNT(gapless); s++)
+    const enum refusing by = refused[i].by;
+    for (size_t s = 0; (by == EVERY || by == GAPLESS) && s < COUNT(gapless); s++)
         test_refusal(i, gapless[s]);
-    for (size_t s = 0; refused[i].by != GAPLESS && s < COUNT(others); s++)
+    for (size_t s = 0; (by == EVERY || by == OTHERS) && s < COUNT(others); s++)
         test_refusal(i, others[s]);
     if (refused[i].and_pack)
         test_pack_refusal(i);
@@ -501,6 +541,7 @@ static const struct {
     {"refused 8 at 2", UINT64_C(34359738370), 0, HAPLOTYPES_GAPPED, 2},
     {"refused 12 at 127", UINT64_C(51539607679), 0, HAPLOTYPES_TOO_DEEP, 127},
     {"refused 13 at 127", UINT64_C(55834574975), 0, HAPLOTYPES_OUT_OF_ORDER, 127},
+    {"refused 17 at 127", UINT64_C(73014444159), 0, HAPLOTYPES_NO_CALLS, 127},
 };
 
 static const struct {

@@ -51,7 +51,8 @@ pub const fn answer_length(n: usize, m: usize) -> usize {
 const CHECK: u64 = 1000;
 const COUNT: u64 = 1 << 32;
 
-/// A table's records as m × n cells (0 a hole, 1 A, 2 B; by fragment and then column) and m tags. Accepted with m.
+/// A table's records as m × n cells (0 a hole, 1 A, 2 B; by fragment and then column) and m tags. Accepted with m. A record without calls, as
+/// stored tables may have, gives holes alone, which [`pack`] does not write again.
 ///
 /// ```
 /// use haplotypes::{pack, unpack, Outcome};
@@ -61,6 +62,11 @@ const COUNT: u64 = 1 << 32;
 /// let (mut cells, mut tags) = ([9; 4], [9; 2]);
 /// assert_eq!(unpack(2, &table, &mut cells, &mut tags), Outcome::Accepted(2));
 /// assert_eq!((cells, tags), ([1, 2, 0, 1], [7, 8]));
+///
+/// table[36..].fill(0); // AB, --: the second record has its tag alone
+/// assert_eq!(unpack(2, &table, &mut cells, &mut tags), Outcome::Accepted(2));
+/// assert_eq!((cells, tags), ([1, 2, 0, 0], [7, 8]));
+/// assert_eq!(pack(2, &cells, &tags, &mut table), Outcome::Refused(17, 1));
 /// ```
 pub fn unpack(n: usize, table: &[u8], cells: &mut [u8], tags: &mut [u32]) -> Outcome {
     // Of every call here: the pointers are those of slices, so they are not null, valid for their lengths, and those that are written overlap no other.
@@ -77,7 +83,8 @@ pub fn unpack(n: usize, table: &[u8], cells: &mut [u8], tags: &mut [u32]) -> Out
     })
 }
 
-/// The table of m × n cells and m tags: the reverse of [`unpack`]. Accepted with m. The fragments are given in the order of the records.
+/// The table of m × n cells and m tags: the reverse of [`unpack`]. Accepted with m. The fragments are given in the order of the records, and each
+/// has a call.
 ///
 /// ```
 /// use haplotypes::{pack, Outcome};
@@ -91,6 +98,7 @@ pub fn unpack(n: usize, table: &[u8], cells: &mut [u8], tags: &mut [u32]) -> Out
 /// let mut table = [9; 64];
 /// assert_eq!(pack(2, &[1, 0, 0, 1], &[8, 7], &mut table), Outcome::Accepted(2)); // A-, -A: the start rises
 /// assert_eq!(pack(2, &[1, 0, 1, 0], &[8, 7], &mut table), Outcome::Refused(13, 1)); // A-, A-: the tag falls
+/// assert_eq!(pack(2, &[0, 0, 1, 0], &[7, 8], &mut table), Outcome::Refused(17, 0)); // --, A-: the first has no call
 /// ```
 pub fn pack(n: usize, cells: &[u8], tags: &[u32], table: &mut [u8]) -> Outcome {
     read(COUNT, unsafe {

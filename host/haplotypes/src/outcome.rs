@@ -18,6 +18,7 @@ use std::fmt;
 /// | 11 | the length of an output is not exact | 0 |
 /// | 12 | C alone: over 8 fragments whose stretch from first to last call covers a column | the column |
 /// | 13 | out of order: a start below that of the fragment before, or the same start and a lower tag | the fragment |
+/// | 17 | pack alone: a fragment without calls | the fragment |
 #[derive(Clone, Copy, PartialEq, Eq, Debug)]
 pub enum Outcome {
     Accepted(usize),
@@ -61,5 +62,6 @@ mod tests {
         assert_eq!(count(1 << 32), Outcome::Refused(1, 0));
         assert_eq!(count((12 << 32) + 127), Outcome::Refused(12, 127));
         assert_eq!(count((13 << 32) + 1), Outcome::Refused(13, 1));
+        assert_eq!(count((17 << 32) + 127), Outcome::Refused(17, 127));
     }
 }

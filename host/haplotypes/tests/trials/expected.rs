@@ -30,8 +30,12 @@ impl Expected {
         Expected { cells, tags, ..Expected::untouched(Accepted(given.m())) }
     }
 
+    /// The table, where every fragment has a call; the first without is refused.
     pub fn packed(given: &Fixture) -> Expected {
-        Expected { table: Some(given.table.clone()), ..Expected::untouched(Accepted(given.m())) }
+        match given.first_without_calls() {
+            Some(place) => Expected::refused(17, place),
+            None => Expected { table: Some(given.table.clone()), ..Expected::untouched(Accepted(given.m())) },
+        }
     }
 
     /// Conflict_counts' numbers, a word of digits to a fragment: `01 10`.

@@ -1,5 +1,5 @@
 //! The rules of a record, 4 to 9: each of them alone, at the first record and at later ones. Rule 8 is of S and F alone.
-//! `out_of_order` tries rule 13.
+//! `out_of_order` tries rule 13, and `no_calls` rule 17.
 
 use crate::calls::Service::{F, S};
 use crate::calls::{Trials, OF_TABLES, SERVICES};
@@ -158,6 +158,9 @@ fn tags_twice() {
     ];
     for (name, tags, place) in rows {
         for service in SERVICES {
+            trials.run(name, service, &Fixture::tagged(&["A", "A", "B"], &tags), &Expected::refused(9, place));
+        }
+        for service in OF_TABLES {
             trials.run(name, service, &Fixture::tagged(&["A", "-", "B"], &tags), &Expected::refused(9, place));
         }
     }

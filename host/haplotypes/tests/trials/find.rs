@@ -94,6 +94,16 @@ fn tables_that_no_other_service_takes() {
     trials.find("records of ones", u32::MAX, &[255; 96], Some(0));
 }
 
+#[test]
+fn records_without_calls() {
+    let mut trials = Trials::default();
+    let table = Fixture::tagged(&["--", "A-", "--"], &[5, 6, 7]).table;
+    for (i, tag) in [5, 6, 7].into_iter().enumerate() {
+        trials.find(&format!("tag {tag} of 5, 6 and 7"), tag, &table, Some(i));
+    }
+    trials.find("no tag 0, though all other bytes of two records are 0", 0, &table, None);
+}
+
 /// Rule 13 is none of find's.
 #[test]
 fn records_out_of_order() {

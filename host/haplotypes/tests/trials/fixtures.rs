@@ -36,6 +36,11 @@ impl Fixture {
         self.tags.len()
     }
 
+    /// The first fragment that has holes alone.
+    pub fn first_without_calls(&self) -> Option<usize> {
+        (0..self.m()).find(|&i| self.cells[self.n * i..self.n * (i + 1)].iter().all(|&code| code == 0))
+    }
+
     /// Said to have so many columns, with the same bytes.
     pub fn in_columns(mut self, n: usize) -> Fixture {
         self.n = n;
@@ -156,6 +161,14 @@ fn fragments_stand_by_start() {
     assert_eq!(["---", "A-A", "-B-", "--A"].map(start), [0, 0, 1, 2]);
     let fragments = ["--A", "-B-", "B--", "---", "-A-", "A--"].map(str::to_owned).to_vec();
     assert_eq!(by_start(fragments), ["B--", "---", "A--", "-B-", "-A-", "--A"]);
+}
+
+#[test]
+fn fragments_of_holes_are_without_calls() {
+    assert_eq!(Fixture::of(&["A-", "--", "-B", "--"]).first_without_calls(), Some(1));
+    assert_eq!(Fixture::of(&["A--", "-B-", "--?"]).first_without_calls(), None);
+    assert_eq!(Fixture::of(&["", ""]).first_without_calls(), Some(0));
+    assert_eq!(Fixture::of(&[""; 0]).first_without_calls(), None);
 }
 
 #[test]

@@ -12,6 +12,7 @@ mod find;
 mod fixtures;
 mod full;
 mod mates;
+mod no_calls;
 mod order;
 mod out_of_order;
 mod records;

@@ -1,5 +1,5 @@
 //! Of several faults, the one that is refused: 3, 1, 2, 10, 11; then records from 0, each by 4 to 7, 9 and 13, for S and F
-//! by 4 to 9 and 13; then 12, which `depths` tries. Pack: 3, 1, 2, 11; then fragments from 0, each by 6, 4, 9, 13.
+//! by 4 to 9 and 13; then 12, which `depths` tries. Pack: 3, 1, 2, 11; then fragments from 0, each by 6, 17, 4, 9, 13.
 
 use crate::calls::{Service, Sizes, Trials, OF_TABLES, SERVICES, WITH_WORK};
 use crate::expected::{Each, Expected};
@@ -54,28 +54,39 @@ fn sizes_come_before_holes_and_depths() {
     }
 }
 
-/// The same of records whose only fault is that they are out of order.
-#[test]
-fn sizes_come_before_records_out_of_order() {
+/// Each fault of the sizes beside records, or 129 of them, that are refused by themselves.
+fn run_sizes(services: &[Service], fragments: [&str; 2], many: &Fixture, by_themselves: &Expected) {
     let mut trials = Trials::default();
-    let given = Fixture::of(&["-A", "A-"]);
-    let many = Fixture::tagged(&["A"; 129], &(0..129).rev().collect::<Vec<u32>>());
+    let given = Fixture::of(&fragments);
+    let wide = Fixture::of(&fragments.map(|letters| padded(letters, 129)));
     let mut ragged = given.clone();
     ragged.table.push(0);
     ragged.cells.push(0);
     let exact = Sizes::of(&given);
     let wrong = Sizes { cells: 0, tags: 0, answer: 0, table: 0, counts: 0, ..exact };
-    for service in SERVICES {
-        let wide = given.clone().in_columns(129);
-        trials.run_sized("129 columns", service, &wide, exact, &Expected::refused(3, 0));
+    for &service in services {
+        trials.run("129 columns", service, &wide, &Expected::refused(3, 0));
         trials.run_sized("ragged", service, &ragged, exact, &Expected::refused(1, 0));
-        trials.run("129 fragments", service, &many, &Expected::refused(2, 0));
+        trials.run("129 fragments", service, many, &Expected::refused(2, 0));
         trials.run_sized("wrong outputs", service, &given, wrong, &Expected::refused(11, 0));
-        trials.run("right sizes", service, &given, &Expected::refused(13, 1));
+        trials.run("right sizes", service, &given, by_themselves);
+        if WITH_WORK.contains(&service) {
+            let short = Sizes { work: 32_767, ..wrong };
+            trials.run_sized("short work", service, &given, short, &Expected::refused(10, 0));
+        }
     }
-    for service in WITH_WORK {
-        let short = Sizes { work: 32_767, ..wrong };
-        trials.run_sized("short work", service, &given, short, &Expected::refused(10, 0));
+}
+
+#[test]
+fn sizes_come_before_records_out_of_order() {
+    let many = Fixture::tagged(&["A"; 129], &(0..129).rev().collect::<Vec<u32>>());
+    run_sizes(&SERVICES, ["-A", "A-"], &many, &Expected::refused(13, 1));
+}
+
+#[test]
+fn sizes_come_before_fragments_without_calls() {
+    for letters in ["", "-", "--"] {
+        run_sizes(&[Service::Pack], [letters; 2], &Fixture::of(&[letters; 129]), &Expected::refused(17, 0));
     }
 }
 
@@ -171,14 +182,21 @@ fn rules_of_a_record_before_9_and_13() {
 }
 
 /// Calls at both ends of 128 columns reach over more than 96. As a record they are out of frame, whatever the codes.
+/// No fragment breaks both 17 and 4: without calls it reaches over no column.
 /// The fragment before starts at column 1 or 2, so that this one is out of order, or at 0. The numbers are those of pack,
 /// of S and F, and of the others.
 #[test]
 fn rules_of_packs_fragments() {
     let mut trials = Trials::default();
     let (unknown, far) = (mates([('?', 0), ('A', 127)], 128), mates([('A', 0), ('B', 127)], 128));
-    let [near, gapped, whole] = ["?AB", "A-B", "AAB"].map(|letters| padded(letters, 128));
+    let [near, alone, empty, gapped, whole] = ["?AB", "?", "", "A-B", "AAB"].map(|letters| padded(letters, 128));
     let rows = [
+        ("6 without calls, 9 and 13", "-A", &alone, [10, 10], [6, 6, 6]),
+        ("6 without calls", "A", &alone, [10, 11], [6, 6, 6]),
+        ("17, 9 and 13", "-A", &empty, [10, 10], [17, 9, 9]),
+        ("17 and 13 by start", "-A", &empty, [10, 11], [17, 13, 13]),
+        ("17 and 13 by tag", "A", &empty, [11, 10], [17, 13, 13]),
+        ("17 and 9", "A", &empty, [10, 10], [17, 9, 9]),
         ("6, 4, a hole, 9 and 13", "-A", &unknown, [10, 10], [6, 4, 4]),
         ("4, a hole, 9 and 13", "-A", &far, [10, 10], [4, 4, 4]),
         ("a hole, 9 and 13", "-A", &gapped, [10, 10], [9, 8, 9]),
@@ -264,6 +282,37 @@ fn fragments_from_0() {
     for (name, fragments, tags, refusals) in rows {
         for service in SERVICES {
             trials.run(name, service, &Fixture::tagged(&fragments, &tags), &refusal(service, refusals));
+        }
+    }
+}
+
+/// Fragments without calls among those that every service refuses: the refusal by pack, and that by the others.
+#[test]
+fn fragments_without_calls_from_0() {
+    let mut trials = Trials::default();
+    let far = mates([('A', 0), ('B', 127)], 128);
+    let rows: [(&str, [&str; 3], [u32; 3], [(u8, usize); 2]); 15] = [
+        ("6 at 0, 17 at 1", ["A?A", "", "A"], [10, 11, 12], [(6, 0); 2]),
+        ("4 at 0, 17 at 1", [&far, "", "A"], [10, 11, 12], [(4, 0); 2]),
+        ("6 at 1, 17 at 2", ["A", "?", ""], [10, 11, 12], [(6, 1); 2]),
+        ("4 at 1, 17 at 2", ["A", &far, ""], [10, 11, 12], [(4, 1); 2]),
+        ("9 at 1, 17 at 2", ["A", "A", ""], [10, 10, 12], [(9, 1); 2]),
+        ("13 at 1 by tag, 17 at 2", ["A", "A", ""], [11, 10, 12], [(13, 1); 2]),
+        ("13 at 1 by start, 17 at 2", ["-A", "A", ""], [10, 11, 12], [(13, 1); 2]),
+        ("17 at 0, 6 at 1", ["", "?", "A"], [10, 11, 12], [(17, 0), (6, 1)]),
+        ("17 at 0, 4 at 1", ["", &far, "A"], [10, 11, 12], [(17, 0), (4, 1)]),
+        ("17 at 0, 9 at 1", ["", "A", "A"], [10, 10, 12], [(17, 0), (9, 1)]),
+        ("17 at 0, 13 at 1", ["", "A", "A"], [11, 10, 12], [(17, 0), (13, 1)]),
+        ("17 at 1, 6 at 2", ["A", "", "A?A"], [10, 11, 12], [(17, 1), (6, 2)]),
+        ("17 at 1, 4 at 2", ["A", "", &far], [10, 11, 12], [(17, 1), (4, 2)]),
+        ("17 at 1, 9 at 2", ["A", "", "A"], [10, 11, 10], [(17, 1), (9, 2)]),
+        ("17 at 1, 13 at 2", ["A", "", "A"], [10, 12, 11], [(17, 1), (13, 2)]),
+    ];
+    for (name, fragments, tags, [(number, place), of_others]) in rows {
+        let given = Fixture::tagged(&fragments.map(|letters| padded(letters, 128)), &tags);
+        trials.run(name, Service::Pack, &given, &Expected::refused(number, place));
+        for service in OF_TABLES {
+            trials.run(name, service, &given, &Expected::refused(of_others.0, of_others.1));
         }
     }
 }

@@ -1,15 +1,20 @@
 //! Rule 13: records rise by start, and at one start by tag, each against the one directly before. `order` tries the rule
-//! among the others, `depths` before 12, `find` what is found in tables that break it.
+//! among the others, `depths` before 12, `find` what is found in tables that break it. Pack compares no fragment without
+//! calls, which it refuses first (17).
 
-use crate::calls::{Trials, SERVICES};
+use crate::calls::{Service, Trials, OF_TABLES, SERVICES};
 use crate::expected::{Each, Expected};
 use crate::fixtures::{lone, padded, Fixture};
 
-/// Every service refuses the record at the place.
+/// Every service refuses the record at the place, but pack a fragment without calls up to there.
 fn run_refused(trials: &mut Trials, name: &str, given: &Fixture, place: usize) {
-    for service in SERVICES {
-        trials.run(name, service, given, &Expected::refused(13, place));
+    let out_of_order = Expected::refused(13, place);
+    for service in OF_TABLES {
+        trials.run(name, service, given, &out_of_order);
     }
+    let without_calls = given.first_without_calls().filter(|&first| first <= place);
+    let of_pack = without_calls.map_or(out_of_order, |first| Expected::refused(17, first));
+    trials.run(name, Service::Pack, given, &of_pack);
 }
 
 /// A name, fragments of As, and their tags.
@@ -96,10 +101,12 @@ fn each_bit_of_a_tag() {
     for bit in 0..32 {
         let power = 1 << bit;
         for (low, high) in [(0, power), (power - 1, power), (power - 1, power | (power - 1)), (!power, u32::MAX)] {
-            let rising = Fixture::tagged(&["A", "-"], &[low, high]);
-            trials.run_each(&format!("{low} and {high}"), &rising, &Each::of_as_alone(&rising));
-            let falling = Fixture::tagged(&["A", "-"], &[high, low]);
-            run_refused(&mut trials, &format!("{high} and {low}"), &falling, 1);
+            for fragments in [["A", "A"], ["A", "-"]] {
+                let rising = Fixture::tagged(&fragments, &[low, high]);
+                trials.run_each(&format!("{fragments:?}, {low} and {high}"), &rising, &Each::of_as_alone(&rising));
+                let falling = Fixture::tagged(&fragments, &[high, low]);
+                run_refused(&mut trials, &format!("{fragments:?}, {high} and {low}"), &falling, 1);
+            }
         }
     }
 }
@@ -149,20 +156,22 @@ fn orders(count: usize) -> Vec<Vec<usize>> {
     orders(count - 1).into_iter().flat_map(|order| (0..count).map(move |at| put(order.clone(), at))).collect()
 }
 
-/// Five records, of which one order alone is in order. Any other is refused where a number is first below the one
-/// before it.
+/// Five records, of which one order alone is in order, whether or not the second has a call. Any other is refused where a
+/// number is first below the one before it.
 #[test]
 fn every_order_of_five_records() {
     let mut trials = Trials::default();
-    let records = [("A--", 5), ("---", 7), ("AA-", 8), ("-A-", 3), ("--A", 6)];
-    let orders = orders(records.len());
+    let orders = orders(5);
     assert_eq!(orders.len(), 120);
-    for order in orders {
-        let (fragments, tags): (Vec<&str>, Vec<u32>) = order.iter().map(|&i| records[i]).unzip();
-        let (name, given) = (format!("order {order:?}"), Fixture::tagged(&fragments, &tags));
-        match (1..5).find(|&i| order[i] < order[i - 1]) {
-            None => trials.run_each(&name, &given, &Each::of_as_alone(&given)),
-            Some(place) => run_refused(&mut trials, &name, &given, place),
+    for second in ["A--", "---"] {
+        let records = [("A--", 5), (second, 7), ("AA-", 8), ("-A-", 3), ("--A", 6)];
+        for order in &orders {
+            let (fragments, tags): (Vec<&str>, Vec<u32>) = order.iter().map(|&i| records[i]).unzip();
+            let (name, given) = (format!("order {order:?} with {second}"), Fixture::tagged(&fragments, &tags));
+            match (1..5).find(|&i| order[i] < order[i - 1]) {
+                None => trials.run_each(&name, &given, &Each::of_as_alone(&given)),
+                Some(place) => run_refused(&mut trials, &name, &given, place),
+            }
         }
     }
 }

@@ -1,5 +1,6 @@
 //! Unpack and pack: the bytes of records, both ways. A call of unpack must leave a row's cells and tags, and a call of
-//! pack that is given these must leave its bytes, so each row is also a round trip from either side.
+//! pack that is given these must leave its bytes, so each row is also a round trip from either side; but where a fragment
+//! has no call pack must refuse them.
 
 use crate::calls::Service::{Pack, Unpack};
 use crate::calls::Trials;
@@ -47,12 +48,16 @@ fn long(i: usize) -> String {
     (0..128).map(letter).collect()
 }
 
+fn one_call(i: usize) -> String {
+    lone('B', 127 - i, 128)
+}
+
 /// One call, or none.
 fn short(i: usize) -> String {
     if i % 2 == 1 {
         padded("", 128)
     } else {
-        lone('B', 127 - i, 128)
+        one_call(i)
     }
 }
 
@@ -72,8 +77,9 @@ fn holed(i: usize) -> String {
 #[test]
 fn tables_both_ways() {
     let mut trials = Trials::default();
-    let tables: [(&str, fn(usize) -> String); 4] = [
+    let tables: [(&str, fn(usize) -> String); 5] = [
         ("128 long fragments", long),
+        ("128 fragments of one call", one_call),
         ("128 short fragments, half of them without calls", short),
         ("128 fragments of two calls", two_calls),
         ("128 long fragments with holes", holed),
@@ -99,8 +105,11 @@ fn cells_over_2() {
         let mut gapped = Fixture::of(&["AAA", "A-A"]);
         gapped.cells[5] = value;
         trials.run(&format!("{value} after a gap"), Pack, &gapped, &Expected::refused(6, 1));
-        let mut alone = Fixture::of(&["AAA", "---"]);
-        alone.cells[4] = value;
-        trials.run(&format!("{value} between holes"), Pack, &alone, &Expected::refused(6, 1));
+        for at in 3..6 {
+            let mut alone = Fixture::of(&["AAA", "---", "---"]);
+            alone.cells[at] = value;
+            let name = format!("{value} in cell {} of a fragment without calls", at % 3);
+            trials.run(&name, Pack, &alone, &Expected::refused(6, 1));
+        }
     }
 }
