@@ -3,13 +3,15 @@
 //! half of what is usual is asked for, a quarter of what is below 40, and nothing below 12.
 //!
 //! The listing meets the refusals 1 to 7, 9 and 13, in the lines of S and F 8, and in C's 12. It never meets 10 and 11, as it
-//! lends itself enough work and buffers of the right length. Every service meets the refusals that it has: 8 is of S and F alone,
-//! 10 of those that borrow work, 12 of C alone, pack has neither 5 nor 7, as cells have no stray bits and no ends, and find
-//! refuses nothing.
+//! lends itself enough work and buffers of the right length. Every service meets the refusals that it has, and no other: 8 is of S
+//! and F alone, 10 of those that borrow work, 12 of C alone, 17 of pack alone, pack has neither 5 nor 7, as cells have no stray
+//! bits and no ends, and find refuses nothing.
 
+use crate::rules::REFUSALS;
 use crate::runner::{sum, Tally};
 use crate::seen::{Seen, Verdict, PLACES};
 use crate::service::Service::{self, Check, ConflictCounts, Corrections, Find, Fragments, Pack, Snps, Unpack};
+use crate::uncalled::Uncalled;
 use Verdict::{Absent, Accepted, First, No, Only, Refused, Yes};
 
 /// A kind's tables, and the least of them with each verdict: yes, no, refused by C alone, by S and F alone, and by each of the
@@ -87,45 +89,46 @@ const CALLS: [(Service, usize); 8] = [
     (Corrections, 19),
 ];
 
-/// What the calls of a service must have returned, over all kinds: the least of each acceptance and of refusals 1 to 13.
+/// What the calls of a service must have returned, over all kinds: the least of each acceptance and of each refusal, 0 where the
+/// service does not have it.
 struct Replies {
     service: Service,
     accepted: &'static [(Verdict, usize)],
-    refused: [usize; 13],
+    refused: [usize; 14],
 }
 
 const REPLIES: [Replies; 8] = [
-    replies(Unpack, &[(Accepted, 41500)], [2900, 1700, 30500, 13500, 1850, 1200, 1000, 0, 1300, 0, 100000, 0, 3400]),
-    replies(Pack, &[(Accepted, 17500)], [100000, 1000, 27000, 235, 0, 1600, 0, 0, 1700, 0, 46500, 0, 2100]),
-    replies(Find, &[(Only, 25000), (First, 12000), (Absent, 36000)], [0; 13]),
+    replies(Unpack, &[(Accepted, 41500)], [2900, 1700, 30500, 13500, 1850, 1200, 1000, 0, 1300, 0, 100000, 0, 3400, 0]),
+    replies(Pack, &[(Accepted, 14000)], [113000, 1700, 32000, 300, 0, 1900, 0, 0, 1150, 0, 51000, 0, 1350, 3100]),
+    replies(Find, &[(Only, 25000), (First, 12000), (Absent, 36000)], [0; 14]),
     replies(
         Check,
         &[(Yes, 19000), (No, 21500)],
-        [2100, 1250, 28500, 13500, 1850, 1150, 1000, 0, 1300, 0, 57000, 0, 3400],
+        [2100, 1250, 28500, 13500, 1850, 1150, 1000, 0, 1300, 0, 57000, 0, 3400, 0],
     ),
     replies(
         ConflictCounts,
         &[(Accepted, 41000)],
-        [2100, 1250, 28500, 13500, 1850, 1150, 1000, 0, 1300, 0, 57000, 0, 3400],
+        [2100, 1250, 28500, 13500, 1850, 1150, 1000, 0, 1300, 0, 57000, 0, 3400, 0],
     ),
     replies(
         Snps,
         &[(Yes, 7500), (No, 7700)],
-        [2700, 1600, 30000, 10500, 1450, 1000, 850, 28500, 970, 40000, 51000, 0, 2400],
+        [2700, 1600, 30000, 10500, 1450, 1000, 850, 28500, 970, 40000, 51000, 0, 2400, 0],
     ),
     replies(
         Fragments,
         &[(Yes, 7500), (No, 7700)],
-        [2700, 1600, 30000, 10500, 1450, 1000, 850, 28500, 970, 40000, 51000, 0, 2400],
+        [2700, 1600, 30000, 10500, 1450, 1000, 850, 28500, 970, 40000, 51000, 0, 2400, 0],
     ),
     replies(
         Corrections,
         &[(Yes, 18000), (No, 18500)],
-        [3500, 2100, 32000, 13500, 1850, 1150, 1000, 0, 1300, 40000, 97000, 3700, 3400],
+        [3500, 2100, 32000, 13500, 1850, 1150, 1000, 0, 1300, 40000, 97000, 3700, 3400, 0],
     ),
 ];
 
-const fn replies(service: Service, accepted: &'static [(Verdict, usize)], refused: [usize; 13]) -> Replies {
+const fn replies(service: Service, accepted: &'static [(Verdict, usize)], refused: [usize; 14]) -> Replies {
     Replies { service, accepted, refused }
 }
 
@@ -143,8 +146,8 @@ const CALLED: [(Seen, usize); 13] = [
     (Seen::FoundInRagged, 740),
     (Seen::FoundPastMost, 230),
     (Seen::FoundOutOfOrder, 3400),
-    (Seen::TableRoundTrip, 10500),
-    (Seen::CellsRoundTrip, 8800),
+    (Seen::TableRoundTrip, 10300),
+    (Seen::CellsRoundTrip, 6800),
 ];
 
 /// What must have been seen of holes between calls, over all kinds. Of tables by every choice 10,000 are asked for, and not
@@ -159,7 +162,7 @@ const GAPPED: [(Seen, usize); 10] = [
     (Seen::GapBeforeFault(Snps), 6700),
     (Seen::GapBeforeFault(Fragments), 6700),
     (Seen::GappedTableRoundTrip, 6500),
-    (Seen::GappedCellsRoundTrip, 3900),
+    (Seen::GappedCellsRoundTrip, 3050),
 ];
 
 /// What small kinds and full ones must have seen of holes that tells definitions apart.
@@ -191,7 +194,7 @@ struct Order {
 
 const ORDERS: [Order; 7] = [
     order(Unpack, [2800, 670, 1850, 1600], [1900, 1350, 150, 10], [235, 360, 140, 135, 0, 420]),
-    order(Pack, [1700, 390, 880, 360], [980, 790, 320, 8], [9, 0, 165, 0, 0, 155]),
+    order(Pack, [900, 465, 740, 390], [800, 400, 160, 4], [30, 0, 200, 0, 0, 80]),
     order(Check, [2750, 670, 1850, 1600], [1850, 1350, 150, 10], [230, 350, 140, 135, 0, 410]),
     order(ConflictCounts, [2750, 670, 1850, 1600], [1900, 1350, 150, 10], [230, 350, 140, 135, 0, 410]),
     order(Snps, [1750, 660, 1350, 2700], [1400, 860, 135, 10], [190, 275, 105, 100, 225, 280]),
@@ -206,6 +209,47 @@ const fn order(service: Service, turns: [usize; 4], places: [usize; 4], faults: 
 /// C's refusals 13 of tables that are too deep.
 const BEFORE_DEPTH: usize = 890;
 
+/// What must have been seen of fragments without calls, over all kinds: pack's refusals 17, by the fragments, by their places and
+/// beside other rules of the same fragment, a later and an earlier one; what pack accepts; and what the other services do.
+const WITHOUT_CALLS: [(Seen, usize); 36] = [
+    (Seen::Uncalled(Uncalled::First), 370),
+    (Seen::Uncalled(Uncalled::Between), 460),
+    (Seen::Uncalled(Uncalled::Last), 260),
+    (Seen::Uncalled(Uncalled::Several), 375),
+    (Seen::Uncalled(Uncalled::All), 265),
+    (Seen::Uncalled(Uncalled::NoColumns), 1350),
+    (Seen::UncalledFrom(1), 365),
+    (Seen::UncalledFrom(3), 405),
+    (Seen::UncalledFrom(30), 155),
+    (Seen::UncalledFrom(127), 4),
+    (Seen::UncalledAlone, 1550),
+    (Seen::UncalledBefore(9), 50),
+    (Seen::UncalledBefore(13), 355),
+    (Seen::UncalledBeforeLater(6), 130),
+    (Seen::UncalledBeforeLater(4), 7),
+    (Seen::UncalledBeforeLater(9), 380),
+    (Seen::UncalledBeforeLater(13), 600),
+    (Seen::UnknownUncalled, 345),
+    (Seen::FaultBeforeUncalled(6), 135),
+    (Seen::FaultBeforeUncalled(4), 24),
+    (Seen::FaultBeforeUncalled(9), 100),
+    (Seen::FaultBeforeUncalled(13), 205),
+    (Seen::PackedWithout("two calls"), 4450),
+    (Seen::PackedWithout("an A"), 4550),
+    (Seen::PackedWithout("a B"), 4550),
+    (Seen::PackedWithout("a call after the first column"), 2650),
+    (Seen::PackedWithout("a call before the last column"), 1900),
+    (Seen::PackedWithout("a call below column 64"), 920),
+    (Seen::UncalledTaken(Unpack), 1250),
+    (Seen::UncalledTaken(Check), 1100),
+    (Seen::UncalledTaken(ConflictCounts), 1100),
+    (Seen::UncalledTaken(Snps), 1000),
+    (Seen::UncalledTaken(Fragments), 1000),
+    (Seen::UncalledTaken(Corrections), 1050),
+    (Seen::FoundUncalled, 1100),
+    (Seen::UncalledRoundTrip, 280),
+];
+
 /// Of each comparison that is not the order of records: the least of the refusals 13 that it misses, and of the acceptances
 /// that it would refuse, of every service on a table, and of pack.
 pub struct OtherOrder {
@@ -215,21 +259,21 @@ pub struct OtherOrder {
 }
 
 pub const OTHER_ORDERS: [OtherOrder; 15] = [
-    other_order("none", [2400, 0], [2100, 0]),
-    other_order("by start alone", [1050, 0], [1450, 0]),
-    other_order("by start and tag, both", [1800, 0], [1800, 0]),
-    other_order("by the highest byte of tags", [750, 0], [820, 0]),
-    other_order("with record 0", [1150, 0], [770, 0]),
-    other_order("of fragments with calls", [380, 0], [1200, 0]),
-    other_order("without calls by start alone", [150, 0], [1100, 0]),
-    other_order("by start or tag", [0, 12000], [0, 5700]),
-    other_order("by starts that differ", [0, 13500], [0, 7700]),
-    other_order("by tag alone", [740, 12000], [320, 5700]),
-    other_order("by the lowest byte of tags", [620, 6100], [590, 3400]),
-    other_order("by the bytes of tags in turn", [440, 6200], [390, 3600]),
-    other_order("by tags with a sign", [65, 1500], [240, 1000]),
-    other_order("without calls last", [330, 810], [155, 4300]),
-    other_order("without calls by tag alone", [160, 310], [70, 1550]),
+    other_order("none", [2400, 0], [1350, 0]),
+    other_order("by start alone", [1050, 0], [750, 0]),
+    other_order("by start and tag, both", [1800, 0], [1050, 0]),
+    other_order("by the highest byte of tags", [750, 0], [520, 0]),
+    other_order("with record 0", [1150, 0], [650, 0]),
+    other_order("of fragments with calls", [380, 0], [0, 0]),
+    other_order("without calls by start alone", [150, 0], [0, 0]),
+    other_order("by start or tag", [0, 12000], [0, 3700]),
+    other_order("by starts that differ", [0, 13500], [0, 4600]),
+    other_order("by tag alone", [740, 12000], [310, 3700]),
+    other_order("by the lowest byte of tags", [620, 6100], [455, 2100]),
+    other_order("by the bytes of tags in turn", [440, 6200], [305, 2250]),
+    other_order("by tags with a sign", [65, 1500], [45, 610]),
+    other_order("without calls last", [330, 810], [0, 0]),
+    other_order("without calls by tag alone", [160, 310], [0, 0]),
 ];
 
 const fn other_order(name: &'static str, of_tables: [usize; 2], of_pack: [usize; 2]) -> OtherOrder {
@@ -296,10 +340,13 @@ pub fn demands(with_listing: bool) -> Vec<Demand> {
     let listed = LISTED.into_iter().filter(|_| with_listing);
     let orders = ORDERS.iter().flat_map(Order::leasts).chain([(Seen::OrderBeforeDepth, BEFORE_DEPTH)]);
     let other_orders = OTHER_ORDERS.iter().flat_map(OtherOrder::leasts);
-    let of_all = returned.chain(CALLED).chain(GAPPED).chain(orders).chain(other_orders).chain(settled).chain(listed);
+    let called = CALLED.into_iter().chain(GAPPED).chain(WITHOUT_CALLS);
+    let of_all = returned.chain(called).chain(orders).chain(other_orders).chain(settled).chain(listed);
+    let never = REPLIES.iter().filter(|replies| replies.service != Find).flat_map(Replies::never);
     of_kinds
         .chain(of_mates)
         .chain(of_all.map(|(seen, least)| Demand { kind: None, seen, number: Number::AtLeast(least) }))
+        .chain(never.map(|seen| Demand { kind: None, seen, number: Number::Exactly(0) }))
         .collect()
 }
 
@@ -324,9 +371,19 @@ impl Kind {
 
 impl Replies {
     fn leasts(&self) -> impl Iterator<Item = (Seen, usize)> + '_ {
-        let refused = (1..).zip(self.refused).map(|(rule, least)| (Refused(rule), least));
+        let refused = self.refusals().map(|(rule, least)| (Refused(rule), least));
         let all = self.accepted.iter().copied().chain(refused).filter(|&(_, least)| least > 0);
         all.map(|(verdict, least)| (Seen::Returned(self.service, verdict), least))
+    }
+
+    /// The refusals that a service does not have, though its calls return some.
+    fn never(&self) -> impl Iterator<Item = Seen> + '_ {
+        let none = self.refusals().filter(|&(_, least)| least == 0);
+        none.map(|(rule, _)| Seen::Returned(self.service, Refused(rule)))
+    }
+
+    fn refusals(&self) -> impl Iterator<Item = (usize, usize)> {
+        REFUSALS.into_iter().zip(self.refused)
     }
 }
 

@@ -1,6 +1,7 @@
 //! The library under test: a function of a call, so that the self-test can put a wrong one in its place.
 
 use crate::guarded::{Guarded, Room};
+use crate::record::Matrix;
 use crate::service::{Buffer, Service};
 use haplotypes::Outcome;
 use std::ops::Range;
@@ -107,6 +108,14 @@ impl Buffers {
 }
 
 impl Call {
+    /// The cells that pack is given, or those of an accepted table.
+    pub fn matrix(&self) -> Matrix {
+        match self.service {
+            Service::Pack => Matrix::of_cells(self.number, self.lent.tags.lent().len(), self.lent.cells.lent()),
+            _ => Matrix::read(self.lent.table.lent(), self.number),
+        }
+    }
+
     /// The call in words, with the lengths of its buffers.
     pub fn shown(&self) -> String {
         let argument = if self.service == Service::Find { "tag" } else { "columns" };

@@ -30,6 +30,7 @@ mod self_test;
 mod service;
 #[cfg(test)]
 mod trials;
+mod uncalled;
 
 use seen::{Counts, Seen};
 use service::Service;

@@ -3,7 +3,7 @@
 
 use crate::library::Call;
 use crate::record::{span, start, stretch, tag, whole_records, Matrix};
-use crate::rules::{fault_in_any_order, pack_fault_in_any_order, Refusal};
+use crate::rules::{fault_in_any_order, pack_fault_without, Refusal};
 use crate::service::Service;
 
 /// Where a record, or a fragment given to pack, stands in order; and whether it has calls, which the order does not ask.
@@ -11,7 +11,7 @@ use crate::service::Service;
 pub struct Key {
     pub start: usize,
     pub tag: u32,
-    pub bare: bool,
+    pub uncalled: bool,
 }
 
 impl Key {
@@ -30,14 +30,14 @@ pub fn keys(call: &Call) -> Vec<Key> {
 }
 
 pub fn keys_of_table(table: &[u8]) -> Vec<Key> {
-    whole_records(table).map(|r| Key { start: start(r), tag: tag(r), bare: span(r) == 0 }).collect()
+    whole_records(table).map(|r| Key { start: start(r), tag: tag(r), uncalled: span(r) == 0 }).collect()
 }
 
 pub fn keys_of_cells(n: usize, cells: &[u8], tags: &[u32]) -> Vec<Key> {
     let rows = Matrix::of_cells(n, tags.len(), cells).rows;
     let key = |(row, &tag): (&Vec<u8>, &u32)| {
         let stretch = stretch(row);
-        Key { start: stretch.start, tag, bare: stretch.is_empty() }
+        Key { start: stretch.start, tag, uncalled: stretch.is_empty() }
     };
     rows.iter().zip(tags).map(key).collect()
 }
@@ -51,7 +51,7 @@ pub fn falls(keys: &[Key]) -> impl Iterator<Item = usize> + '_ {
 pub fn other_fault(call: &Call) -> Option<Refusal> {
     let lent = &call.lent;
     match call.service {
-        Service::Pack => pack_fault_in_any_order(call.number, lent.cells.lent(), lent.tags.lent()),
+        Service::Pack => pack_fault_without(13, call.number, lent.cells.lent(), lent.tags.lent()),
         service => fault_in_any_order(service, call.number, lent.table.lent()),
     }
 }
@@ -59,10 +59,10 @@ pub fn other_fault(call: &Call) -> Option<Refusal> {
 /// A comparison that is not the order of records, though some library could take it for that.
 pub struct Other {
     pub name: &'static str,
-    /// can it take a record that is out of order?
-    pub misses: bool,
-    /// can it refuse one that is not?
-    pub makes_up: bool,
+    misses: bool,
+    makes_up: bool,
+    /// does it differ from the order beside fragments without calls alone?
+    of_uncalled: bool,
     /// does it refuse a record, given record 0, the one before, and itself?
     refuses: Refuses,
 }
@@ -70,6 +70,21 @@ pub struct Other {
 type Refuses = fn(Key, Key, Key) -> bool;
 
 impl Other {
+    /// Can it take a record that is out of order?
+    pub fn misses(&self, service: Service) -> bool {
+        self.misses && self.differs(service)
+    }
+
+    /// Can it refuse one that is not?
+    pub fn makes_up(&self, service: Service) -> bool {
+        self.makes_up && self.differs(service)
+    }
+
+    /// Pack refuses fragments without calls before it comes to their order.
+    fn differs(&self, service: Service) -> bool {
+        !(self.of_uncalled && service == Service::Pack)
+    }
+
     pub fn refuses(&self, keys: &[Key], place: usize) -> bool {
         place > 0 && (self.refuses)(keys[0], keys[place - 1], keys[place])
     }
@@ -86,14 +101,16 @@ pub static OTHERS: [Other; 15] = [
     misses("by start and tag, both", |_, before, key| key.start < before.start && key.tag < before.tag),
     misses("by the highest byte of tags", |_, before, key| by(key, key.tag >> 24) < by(before, before.tag >> 24)),
     misses("with record 0", |first, _, key| key.order() < first.order()),
-    misses("of fragments with calls", |_, before, key| !bare(before, key) && key.order() < before.order()),
-    misses("without calls by start alone", |_, before, key| {
-        if bare(before, key) {
+    of_uncalled(misses("of fragments with calls", |_, before, key| {
+        !uncalled(before, key) && key.order() < before.order()
+    })),
+    of_uncalled(misses("without calls by start alone", |_, before, key| {
+        if uncalled(before, key) {
             key.start < before.start
         } else {
             key.order() < before.order()
         }
-    }),
+    })),
     makes_up("by start or tag", |_, before, key| key.start < before.start || key.tag < before.tag),
     makes_up("by starts that differ", |_, before, key| key.start <= before.start),
     both("by tag alone", |_, before, key| key.tag < before.tag),
@@ -102,19 +119,21 @@ pub static OTHERS: [Other; 15] = [
         by(key, key.tag.to_le_bytes()) < by(before, before.tag.to_le_bytes())
     }),
     both("by tags with a sign", |_, before, key| by(key, key.tag as i32) < by(before, before.tag as i32)),
-    both("without calls last", |_, before, key| (key.bare, key.order()) < (before.bare, before.order())),
-    both("without calls by tag alone", |_, before, key| {
-        if bare(before, key) {
+    of_uncalled(both("without calls last", |_, before, key| {
+        (key.uncalled, key.order()) < (before.uncalled, before.order())
+    })),
+    of_uncalled(both("without calls by tag alone", |_, before, key| {
+        if uncalled(before, key) {
             key.tag < before.tag
         } else {
             key.order() < before.order()
         }
-    }),
+    })),
 ];
 
 /// Has one of two no calls?
-fn bare(before: Key, key: Key) -> bool {
-    before.bare || key.bare
+fn uncalled(before: Key, key: Key) -> bool {
+    before.uncalled || key.uncalled
 }
 
 /// By start, and then by something of the tag.
@@ -123,13 +142,17 @@ fn by<T>(key: Key, of_tag: T) -> (usize, T) {
 }
 
 const fn misses(name: &'static str, refuses: Refuses) -> Other {
-    Other { name, misses: true, makes_up: false, refuses }
+    Other { name, misses: true, makes_up: false, of_uncalled: false, refuses }
 }
 
 const fn makes_up(name: &'static str, refuses: Refuses) -> Other {
-    Other { name, misses: false, makes_up: true, refuses }
+    Other { name, misses: false, makes_up: true, of_uncalled: false, refuses }
 }
 
 const fn both(name: &'static str, refuses: Refuses) -> Other {
-    Other { name, misses: true, makes_up: true, refuses }
+    Other { name, misses: true, makes_up: true, of_uncalled: false, refuses }
+}
+
+const fn of_uncalled(other: Other) -> Other {
+    Other { of_uncalled: true, ..other }
 }

@@ -64,6 +64,10 @@ pub fn stretch(row: &[u8]) -> Range<usize> {
     first..end
 }
 
+pub fn has_call(row: &[u8]) -> bool {
+    row.iter().any(|code| [A, B].contains(code))
+}
+
 /// Has a row a hole between two calls?
 pub fn is_gapped(row: &[u8]) -> bool {
     row[stretch(row)].contains(&HOLE)
@@ -78,6 +82,17 @@ pub fn in_order(table: &[u8]) -> Vec<u8> {
     let mut records: Vec<&[u8]> = whole_records(table).collect();
     records.sort_by_key(|record| order(record));
     [&records.concat(), table.chunks_exact(RECORD).remainder()].concat()
+}
+
+/// The table of these rows.
+pub fn packed(rows: &[Vec<u8>], tags: &[u32]) -> Vec<u8> {
+    let packed = |(row, &tag): (&Vec<u8>, &u32)| record(tag, stretch(row).start, &row[stretch(row)]);
+    rows.iter().zip(tags).flat_map(packed).collect()
+}
+
+/// The position of the first whole record without calls.
+pub fn first_without_calls(table: &[u8]) -> Option<usize> {
+    whole_records(table).position(|record| span(record) == 0)
 }
 
 /// The positions of the whole records with a tag.
@@ -122,7 +137,6 @@ impl Matrix {
 
     /// The number of fragments whose stretch covers column c: a call stands at or before it, and one at or after it.
     pub fn depth(&self, c: usize) -> usize {
-        let has_call = |cells: &[u8]| cells.iter().any(|&code| code != HOLE);
         self.rows.iter().filter(|row| has_call(&row[..=c]) && has_call(&row[c..])).count()
     }
 }

@@ -1,8 +1,8 @@
-//! The refusals of paper 01, with the mate pairs of paper 02's T-01 and the order of records of its T-02, straight from the
-//! bytes and in the order in which they are tested.
+//! The refusals of paper 01, with the mate pairs of paper 02's T-01, the order of records of its T-02 and its fragments without
+//! calls, straight from the bytes and in the order in which they are tested.
 
 use crate::record::{
-    cell, is_gapped, order, span, start, stretch, tag, whole_records, Matrix, A, B, CELLS, HOLE, RECORD,
+    cell, has_call, is_gapped, order, span, start, stretch, tag, whole_records, Matrix, A, B, CELLS, HOLE, RECORD,
 };
 use crate::service::{Buffer, Service};
 
@@ -11,6 +11,9 @@ pub const MOST_COLUMNS: usize = 128;
 /// The most fragments whose stretches cover one column.
 pub const MOST_DEPTH: usize = 8;
 pub const LEAST_WORK: usize = 32768;
+
+/// The numbers of all refusals.
+pub const REFUSALS: [usize; 14] = [1, 2, 3, 4, 5, 6, 7, 8, 9, 10, 11, 12, 13, 17];
 
 #[derive(Clone, Copy, PartialEq, Eq, Debug)]
 pub struct Refusal {
@@ -30,17 +33,13 @@ pub fn call_fault(service: Service, n: usize, table: &[u8], lent: &[(Buffer, usi
     size_fault(n, table).or_else(|| lent_fault(n, m, lent)).or_else(|| records_fault(service, n, table))
 }
 
-/// The first fault of a call of pack: 3, 1, 2, 11, and then the fragments by 6, 4, 9, 13.
+/// The first fault of a call of pack: 3, 1, 2, 11, and then the fragments by 6, 17, 4, 9, 13.
 pub fn pack_fault(n: usize, cells: &[u8], tags: &[u32], table_length: usize) -> Option<Refusal> {
     let m = tags.len();
     first_broken(&[(3, n > MOST_COLUMNS)])
         .or_else(|| first_broken(&[(1, cells.len() != m * n), (2, m > MOST_FRAGMENTS)]))
         .or_else(|| lent_fault(n, m, &[(Buffer::Table, table_length)]))
-        .or_else(|| {
-            let rows = Matrix::of_cells(n, m, cells).rows;
-            let order = |place: usize| (stretch(&rows[place]).start, tags[place]);
-            first_of_places(m, |place| fragment_fault(&rows[place], tags, place).or(order_fault(place, order)))
-        })
+        .or_else(|| fragments_fault(n, cells, tags, |_| true))
 }
 
 /// The first fault of a table's records by the rules but 13: what a service would say if their order were free.
@@ -49,10 +48,9 @@ pub fn fault_in_any_order(service: Service, n: usize, table: &[u8]) -> Option<Re
     first_of_places(records.len(), |place| record_fault(service, n, &records, place))
 }
 
-/// The same of pack's fragments.
-pub fn pack_fault_in_any_order(n: usize, cells: &[u8], tags: &[u32]) -> Option<Refusal> {
-    let rows = Matrix::of_cells(n, tags.len(), cells).rows;
-    first_of_places(rows.len(), |place| fragment_fault(&rows[place], tags, place))
+/// The first fault of pack's fragments by the rules but one: what pack would say without it.
+pub fn pack_fault_without(rule: usize, n: usize, cells: &[u8], tags: &[u32]) -> Option<Refusal> {
+    fragments_fault(n, cells, tags, |number| number != rule)
 }
 
 /// S's and F's own fault in a table that check takes: the first fragment with a hole between two calls.
@@ -83,13 +81,23 @@ fn first_broken(rules: &[(usize, bool)]) -> Option<Refusal> {
     rules.iter().find(|rule| rule.1).map(|rule| Refusal { number: rule.0, place: 0 })
 }
 
-fn fragment_fault(row: &[u8], tags: &[u32], place: usize) -> Option<usize> {
-    let broken = [
+/// The first fault of pack's fragments by the rules that are tested.
+fn fragments_fault(n: usize, cells: &[u8], tags: &[u32], is_tested: impl Fn(usize) -> bool) -> Option<Refusal> {
+    let rows = Matrix::of_cells(n, tags.len(), cells).rows;
+    first_of_places(rows.len(), |place| fragment_faults(&rows, tags, place).find(|&number| is_tested(number)))
+}
+
+/// The rules that a fragment given to pack breaks, in the order in which they are tested.
+fn fragment_faults(rows: &[Vec<u8>], tags: &[u32], place: usize) -> impl Iterator<Item = usize> {
+    let row = &rows[place];
+    let order = |place: usize| (stretch(&rows[place]).start, tags[place]);
+    let rules = [
         (6, row.iter().any(|&code| code > B)),
+        (17, !has_call(row)),
         (4, stretch(row).len() > CELLS),
         (9, tags[..place].contains(&tags[place])),
     ];
-    broken.iter().find(|rule| rule.1).map(|rule| rule.0)
+    rules.into_iter().filter(|rule| rule.1).map(|rule| rule.0).chain(order_fault(place, order))
 }
 
 fn records_fault(service: Service, n: usize, table: &[u8]) -> Option<Refusal> {

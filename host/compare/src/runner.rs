@@ -10,6 +10,7 @@ use crate::rng::Rng;
 use crate::rules::table_fault;
 use crate::seen::{Counts, Seen, Verdict, PLACES};
 use crate::service::Service;
+use crate::uncalled::{self, Uncalled};
 use std::path::Path;
 use std::sync::atomic::{AtomicBool, AtomicUsize, Ordering};
 use std::sync::Mutex;
@@ -140,6 +141,7 @@ fn print_tallies(tallies: &[Tally]) {
     println!("two fragments in two blocks conflicted before correction: tables {corrected}");
     print_gapped(&all.counts);
     print_order(&all.counts);
+    print_uncalled(&all.counts);
     let settled = methods::names().into_iter().map(|name| format!("{name} {}", all.counts.of(Seen::By(name))));
     println!("settled: {}", settled.collect::<Vec<_>>().join(", "));
 }
@@ -193,6 +195,27 @@ fn print_order(counts: &Counts) {
         let (missed, made_up) = (least(Seen::Missed), least(Seen::MadeUp));
         println!("order {}: 13 missed on tables and by pack {missed}; made up {made_up}", other.name);
     }
+}
+
+/// What was seen of fragments without calls.
+fn print_uncalled(counts: &Counts) {
+    let numbered = |of: fn(usize) -> Seen, numbers: &[usize]| {
+        numbers.iter().map(|&number| format!("{number}:{}", counts.of(of(number)))).collect::<Vec<_>>().join(" ")
+    };
+    let which =
+        Uncalled::ALL.map(|uncalled| format!("{uncalled:?} {}", counts.of(Seen::Uncalled(uncalled)))).join(", ");
+    println!("pack refuses by 17: {which}; from place {}", numbered(Seen::UncalledFrom, &PLACES));
+    let [alone, unknown] = [Seen::UncalledAlone, Seen::UnknownUncalled].map(|seen| counts.of(seen));
+    let (same, later) = (numbered(Seen::UncalledBefore, &[9, 13]), numbered(Seen::UncalledBeforeLater, &[6, 4, 9, 13]));
+    println!("17 alone {alone}, before a rule of the same fragment {same}, of a later one {later}");
+    let earlier = numbered(Seen::FaultBeforeUncalled, &[6, 4, 9, 13]);
+    println!("17 after 6 of the same fragment {unknown}, after a rule of an earlier one {earlier}");
+    let packed = uncalled::OTHERS.each_ref().map(|other| (other.name, counts.of(Seen::PackedWithout(other.name))));
+    println!("pack takes a fragment without {}", packed.map(|(name, count)| format!("{name} {count}")).join(", "));
+    let taken =
+        Service::ON_TABLES.map(|service| format!("{} {}", service.name(), counts.of(Seen::UncalledTaken(service))));
+    let [found, unpacked] = [Seen::FoundUncalled, Seen::UncalledRoundTrip].map(|seen| counts.of(seen));
+    println!("records without calls: {}, find {found}; unpacked and refused by pack {unpacked}", taken.join(", "));
 }
 
 /// What the calls of a service returned, and how often.

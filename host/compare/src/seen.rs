@@ -4,11 +4,18 @@ use crate::counts;
 use crate::expected::{Accepted, Outcome};
 use crate::gaps;
 use crate::methods::{CHECK, CORRECTIONS};
+use crate::rules::REFUSALS;
 use crate::service::Service;
+use crate::uncalled::Uncalled;
 use std::collections::BTreeMap;
 
-/// Refusals 13 are counted by their places: from each of these on, up to the next. The last is the last of a full table.
+/// Refusals 13 and 17 are counted by their places: from each of these on, up to the next. The last is the last of a full table.
 pub const PLACES: [usize; 4] = [1, 3, 30, 127];
+
+/// Where a place is counted, unless it is 0.
+pub fn from_place(place: usize) -> Option<usize> {
+    PLACES.into_iter().rfind(|&from| place >= from)
+}
 
 #[derive(Clone, Copy, PartialEq, Eq, PartialOrd, Ord, Debug)]
 pub enum Seen {
@@ -75,6 +82,24 @@ pub enum Seen {
     FaultOutOfOrder(Service, usize),
     /// a refusal by another rule of a record before the first that is out of order
     FaultBeforeOrder(Service),
+    /// pack's refusal 17, by the fragments that have no call
+    Uncalled(Uncalled),
+    /// a refusal 17 at this place or a later one, but before the next of `PLACES`
+    UncalledFrom(usize),
+    /// a refusal 17 where no other rule is broken
+    UncalledAlone,
+    /// a refusal 17 of a fragment that breaks this rule too
+    UncalledBefore(usize),
+    /// a refusal 17 where a later fragment breaks this rule
+    UncalledBeforeLater(usize),
+    /// pack's refusal 6 of a fragment without calls
+    UnknownUncalled,
+    /// pack's refusal by another rule of a fragment before the first without calls
+    FaultBeforeUncalled(usize),
+    /// pack's acceptance of a fragment that lacks what could be asked for in the place of a call, by its name
+    PackedWithout(&'static str),
+    /// an acceptance of a table with a record without calls
+    UncalledTaken(Service),
     /// an acceptance with more work than the least
     LongWork(Service),
     /// a record that find hands back of a table with a part of a record at its end
@@ -83,8 +108,12 @@ pub enum Seen {
     FoundPastMost,
     /// a record that find hands back where it, or one before it, is out of order
     FoundOutOfOrder,
+    /// a record without calls that find hands back
+    FoundUncalled,
     /// a table unpacked and packed again
     TableRoundTrip,
+    /// a table with a record without calls unpacked, and refused by pack
+    UncalledRoundTrip,
     /// cells and tags packed and unpacked again
     CellsRoundTrip,
     /// the same with holes between calls
@@ -184,8 +213,8 @@ impl Counts {
 
     /// The refusals that occurred, as rule:times.
     pub fn refusals(&self, of: impl Fn(Verdict) -> Seen) -> String {
-        let counts = (1..=13).map(|rule| (rule, self.of(of(Verdict::Refused(rule)))));
-        let shown = counts.filter(|&(_, count)| count > 0).map(|(rule, count)| format!("{rule}:{count}"));
+        let counts = REFUSALS.map(|rule| (rule, self.of(of(Verdict::Refused(rule)))));
+        let shown = counts.into_iter().filter(|&(_, count)| count > 0).map(|(rule, count)| format!("{rule}:{count}"));
         shown.collect::<Vec<_>>().join(" ")
     }
 }

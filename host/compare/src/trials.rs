@@ -1,21 +1,26 @@
-//! Paper 01's trials, for every method, with the mate pairs of paper 02's T-01 and the order of records of its T-02, and the
-//! counts of conflicts.
+//! Paper 01's trials, for every method, with the mate pairs of paper 02's T-01, the order of records of its T-02, its fragments
+//! without calls, and the counts of conflicts.
 
 use crate::answer::Answers;
 use crate::counts::{across_64, conflict_counts, conflicting_apart, over_64, sharing_apart};
-use crate::coverage::{OtherOrder, OTHER_ORDERS};
+use crate::coverage::{demands, OtherOrder, OTHER_ORDERS};
 use crate::order::{falls, keys_of_cells, keys_of_table, Other, OTHERS};
-use crate::record::{column_count, in_order, places_of, record, stretch, Matrix, RECORD};
+use crate::record::{
+    column_count, first_without_calls, has_call, in_order, places_of, record, stretch, Matrix, RECORD,
+};
 use crate::rng::Rng;
 use crate::rules::{
-    call_fault, fault_in_any_order, gapped, pack_fault, pack_fault_in_any_order, table_fault, too_deep, Refusal,
+    call_fault, fault_in_any_order, gapped, pack_fault, pack_fault_without, table_fault, too_deep, Refusal,
     MOST_FRAGMENTS,
 };
+use crate::seen::Seen;
 use crate::self_test::{
-    gapped_triangle, printed_table, unordered_triangle, PRINTED_LISTING, TRIANGLE_LISTING, UNORDERED_LISTING,
+    gapped_triangle, printed_table, stored_table, unordered_triangle, PRINTED_LISTING, STORED_LISTING,
+    TRIANGLE_LISTING, UNORDERED_LISTING,
 };
 use crate::service::Buffer::{Answer, Corrected, Counts, Work};
-use crate::service::Service::{self, Check, ConflictCounts, Corrections, Fragments, Snps, Unpack};
+use crate::service::Service::{self, Check, ConflictCounts, Corrections, Fragments, Pack, Snps, Unpack};
+use crate::uncalled::{self, Uncalled};
 use crate::{brute, expected, gaps, generate, listing, methods};
 
 /// A table of fragments as the paper writes them, one letter to a column.
@@ -154,16 +159,23 @@ fn the_gapped_triangle_out_of_order() {
     assert_eq!(in_order(&bytes), [record(10, 0, &[1, 2]), record(12, 0, &[2, 0, 1]), record(11, 1, &[1, 2])].concat());
 }
 
-/// The one outcome of every service that tests records, for gapless fragments that keep every rule but 9 and 13: from a
-/// table, and from cells by pack.
-fn of_every_service(fragments: &[(u32, &str)]) -> Option<Refusal> {
+/// The one outcome of every service that tests the records of a table, and that of pack from its cells, for gapless fragments
+/// that keep every rule but 9, 13 and 17.
+fn stored_and_packed(fragments: &[(u32, &str)]) -> [Option<Refusal>; 2] {
     let bytes: Vec<u8> = fragments.iter().flat_map(|&(tag, fragment)| fragment_record(tag, fragment)).collect();
     let n = fragments[0].1.len();
     let tags: Vec<u32> = fragments.iter().map(|&(tag, _)| tag).collect();
     let cells = Matrix::read(&bytes, n).rows.concat();
-    let packed = pack_fault(n, &cells, &tags, bytes.len());
-    assert_eq!(Service::ON_TABLES.map(|service| call_fault(service, n, &bytes, &[])), [packed; 6]);
-    packed
+    let stored = table_fault(n, &bytes);
+    assert_eq!(Service::ON_TABLES.map(|service| call_fault(service, n, &bytes, &[])), [stored; 6]);
+    [stored, pack_fault(n, &cells, &tags, bytes.len())]
+}
+
+/// The one outcome of both, for fragments with calls.
+fn of_every_service(fragments: &[(u32, &str)]) -> Option<Refusal> {
+    let [stored, packed] = stored_and_packed(fragments);
+    assert_eq!(stored, packed);
+    stored
 }
 
 #[test]
@@ -177,14 +189,52 @@ fn records_in_order() {
     );
 }
 
-/// Fragments without calls stand by tag among those that start at column 0.
+/// In a table, fragments without calls stand by tag among those that start at column 0. Pack takes none of them.
 #[test]
 fn fragments_without_calls_in_order() {
-    assert_eq!(of_every_service(&[(1, "--"), (2, "A-"), (3, "--"), (4, "AA"), (0, "-A")]), None);
-    assert_eq!(of_every_service(&[(2, "A-"), (1, "--")]), refusal(13, 1));
-    assert_eq!(of_every_service(&[(2, "--"), (1, "A-")]), refusal(13, 1));
-    assert_eq!(of_every_service(&[(2, "--"), (1, "--")]), refusal(13, 1));
-    assert_eq!(of_every_service(&[(1, "-A"), (2, "--")]), refusal(13, 1));
+    let in_order = [(1, "--"), (2, "A-"), (3, "--"), (4, "AA"), (0, "-A")];
+    assert_eq!(stored_and_packed(&in_order), [None, refusal(17, 0)]);
+    assert_eq!(stored_and_packed(&in_order[1..]), [None, refusal(17, 1)]);
+    assert_eq!(stored_and_packed(&[(2, "A-"), (1, "--")]), [refusal(13, 1), refusal(17, 1)]);
+    assert_eq!(stored_and_packed(&[(2, "--"), (1, "A-")]), [refusal(13, 1), refusal(17, 0)]);
+    assert_eq!(stored_and_packed(&[(2, "--"), (1, "--")]), [refusal(13, 1), refusal(17, 0)]);
+    assert_eq!(stored_and_packed(&[(1, "-A"), (2, "--")]), [refusal(13, 1), refusal(17, 1)]);
+}
+
+/// Pack refuses the first fragment without calls. Of an earlier fragment every rule comes first, of the same one 6 alone.
+#[test]
+fn fragments_without_calls_among_other_faults() {
+    let packed = |fragments: &[(u32, &str)]| stored_and_packed(fragments)[1];
+    assert_eq!(packed(&[(1, "A-"), (2, "AB"), (3, "--"), (4, "-A")]), refusal(17, 2));
+    assert_eq!(packed(&[(1, "A-"), (2, "--"), (3, "--")]), refusal(17, 1));
+    assert_eq!(packed(&[(1, "A-"), (1, "--")]), refusal(17, 1));
+    assert_eq!(packed(&[(1, "A-"), (1, "A-"), (2, "--")]), refusal(9, 1));
+    assert_eq!(packed(&[(1, "-A"), (2, "A-"), (3, "--")]), refusal(13, 1));
+    assert_eq!(packed(&[(1, "--"), (2, "-A"), (3, "A-"), (2, "-A")]), refusal(17, 0));
+    let fault = |rows: &[[u8; 2]]| pack_fault(2, &rows.concat(), &[1, 2], 64);
+    assert_eq!(fault(&[[0, 3], [1, 0]]), refusal(6, 0));
+    assert_eq!(fault(&[[1, 0], [0, 255]]), refusal(6, 1));
+    assert_eq!(fault(&[[1, 3], [0, 0]]), refusal(6, 0));
+    assert_eq!(fault(&[[0, 0], [1, 3]]), refusal(17, 0));
+    assert_eq!(fault(&[[1, 0], [0, 1]]), None);
+    assert_eq!(fault(&[[2, 0], [0, 2]]), None);
+    let wide_and_uncalled = [[1; 97], [0; 97]];
+    assert_eq!(pack_fault(97, &wide_and_uncalled.concat(), &[1, 2], 64), refusal(4, 0));
+    assert_eq!(pack_fault(97, &[wide_and_uncalled[1], wide_and_uncalled[0]].concat(), &[1, 2], 64), refusal(17, 0));
+}
+
+/// A stored table with a fragment without calls is listed as ever.
+#[test]
+fn a_stored_fragment_without_calls() {
+    assert_eq!(text(&["AB", "--", "--", "-A"]), STORED_LISTING);
+    assert_eq!(first_without_calls(&stored_table()), Some(1));
+    assert_eq!(first_without_calls(&table(&["AB", "-A"])), None);
+}
+
+#[test]
+fn calls_of_a_row() {
+    assert_eq!([&[0, 0, 1][..], &[2, 0, 0]].map(has_call), [true; 2]);
+    assert_eq!([&[0, 0, 0][..], &[0, 3], &[255], &[]].map(has_call), [false; 4]);
 }
 
 #[test]
@@ -404,31 +454,37 @@ fn conflicts_around_column_64() {
     assert_eq!(found(bs_on(32..97)), (65, true, true));
 }
 
+/// The sizes come first. Without columns a fragment has no call, and no fragments are taken on any number of columns.
 #[test]
 fn sizes_of_cells() {
-    let fault = |n: usize, cells: usize, tags: u32, table: usize| {
-        pack_fault(n, &vec![0; cells], &(0..tags).collect::<Vec<u32>>(), table)
-    };
-    assert_eq!(fault(128, 128 * 128, 128, 4096), None);
-    assert_eq!(fault(0, 0, 2, 64), None);
+    let fault_of =
+        |n: usize, cells: &[u8], tags: u32, table: usize| pack_fault(n, cells, &(0..tags).collect::<Vec<u32>>(), table);
+    let one_call = [&[1][..], &[0; 127]].concat();
+    assert_eq!(fault_of(128, &one_call.repeat(128), 128, 4096), None);
+    let fault = |n: usize, cells: usize, tags: u32, table: usize| fault_of(n, &vec![0; cells], tags, table);
+    assert_eq!(fault(128, 128 * 128, 128, 4096), refusal(17, 0));
+    assert_eq!(fault(0, 0, 2, 64), refusal(17, 0));
+    assert_eq!([0, 2, 128].map(|n| fault(n, 0, 0, 0)), [None; 3]);
     assert_eq!(fault(129, 0, 129, 0), refusal(3, 0));
     assert_eq!(fault(2, 3, 129, 0), refusal(1, 0));
     assert_eq!(fault(2, 258, 129, 0), refusal(2, 0));
+    assert_eq!(fault(0, 0, 129, 129 * 32), refusal(2, 0));
     assert_eq!(fault(2, 2, 1, 33), refusal(11, 0));
+    assert_eq!(fault(0, 0, 2, 63), refusal(11, 0));
 }
 
 #[test]
 fn faults_of_cells() {
     let fault = |cells: &[u8], tags: &[u32]| pack_fault(cells.len() / tags.len(), cells, tags, RECORD * tags.len());
-    assert_eq!(fault(&[0, 0, 0, 0, 1, 2], &[7, 8]), None);
     assert_eq!(fault(&[1, 0, 2, 0, 1, 2], &[7, 8]), None);
-    assert_eq!(fault(&[0, 1, 2, 0, 0, 0], &[7, 8]), refusal(13, 1));
     assert_eq!(fault(&[0, 1, 2, 1, 0, 2], &[7, 8]), refusal(13, 1));
     assert_eq!(fault(&[0, 1, 2, 1, 0, 3], &[7, 8]), refusal(6, 1));
     assert_eq!(fault(&[0, 1, 2, 1, 0, 2], &[7, 7]), refusal(9, 1));
     assert_eq!(fault(&[0, 1, 2, 1, 1, 2], &[7, 7]), refusal(9, 1));
     assert_eq!(fault(&[0, 1, 1, 0, 0, 3], &[7, 8, 9]), refusal(13, 1));
-    assert_eq!(pack_fault_in_any_order(2, &[0, 1, 1, 0, 0, 3], &[7, 8, 9]), refusal(6, 2));
+    assert_eq!(pack_fault_without(13, 2, &[0, 1, 1, 0, 0, 3], &[7, 8, 9]), refusal(6, 2));
+    assert_eq!(pack_fault_without(17, 2, &[0, 0, 0, 1], &[7, 8]), None);
+    assert_eq!(pack_fault_without(17, 2, &[0, 1, 0, 0], &[7, 8]), refusal(13, 1));
     let wide = |calls: usize| [vec![0; 9], vec![1; calls], vec![0; 9]].concat();
     assert_eq!(fault(&wide(96), &[7]), None);
     assert_eq!(fault(&wide(97), &[7]), refusal(4, 0));
@@ -482,12 +538,42 @@ fn places_out_of_order() {
 /// What a run must have seen goes with what each comparison can do, of tables and of pack.
 #[test]
 fn demands_of_other_orders() {
-    let can = OTHERS.each_ref().map(|other| (other.name, [other.misses, other.makes_up]));
+    let can = |service| OTHERS.each_ref().map(|other| (other.name, [other.misses(service), other.makes_up(service)]));
     let demanded = |of: fn(&OtherOrder) -> [usize; 2]| {
         OTHER_ORDERS.each_ref().map(|other| (other.name, of(other).map(|least| least > 0)))
     };
-    assert_eq!(demanded(|other| other.of_tables), can);
-    assert_eq!(demanded(|other| other.of_pack), can);
+    Service::ON_TABLES.iter().for_each(|&service| assert_eq!(demanded(|other| other.of_tables), can(service)));
+    assert_eq!(demanded(|other| other.of_pack), can(Pack));
+}
+
+/// What a run must have seen of fragments without calls: which they are, and fragments with calls that lack something else.
+#[test]
+fn fragments_given_without_calls() {
+    let rows = |fragments: &[&str]| Matrix::read(&table(fragments), fragments[0].len()).rows;
+    assert_eq!(Uncalled::of(&rows(&["--", "A-", "A-"])), Uncalled::First);
+    assert_eq!(Uncalled::of(&rows(&["A-", "--", "A-"])), Uncalled::Between);
+    assert_eq!(Uncalled::of(&rows(&["A-", "A-", "--"])), Uncalled::Last);
+    assert_eq!(Uncalled::of(&rows(&["A-", "--", "--"])), Uncalled::Several);
+    assert_eq!(Uncalled::of(&rows(&["--"])), Uncalled::All);
+    assert_eq!(Uncalled::of(&rows(&["", ""])), Uncalled::NoColumns);
+    let lacking = |row: &str| {
+        let others = uncalled::OTHERS.iter().filter(|other| other.first_without(&rows(&[row])).is_some());
+        others.map(|other| other.name).collect::<Vec<_>>().join(", ")
+    };
+    assert_eq!(lacking("AB"), "");
+    assert_eq!(lacking("-A-"), "two calls, a B");
+    assert_eq!(lacking("B--"), "two calls, an A, a call after the first column");
+    assert_eq!(lacking("--A"), "two calls, a B, a call before the last column");
+    assert_eq!(lacking(&format!("{}ABA", "-".repeat(64))), "a call below column 64");
+    assert_eq!(lacking(&format!("{}ABA", "-".repeat(63))), "");
+}
+
+#[test]
+fn demands_of_fragments_without_calls() {
+    let demanded: Vec<Seen> = demands(false).into_iter().map(|demand| demand.seen).collect();
+    let which = Uncalled::ALL.map(Seen::Uncalled).into_iter();
+    let all = which.chain(uncalled::OTHERS.iter().map(|other| Seen::PackedWithout(other.name)));
+    assert_eq!(all.filter(|seen| !demanded.contains(seen)).collect::<Vec<_>>(), []);
 }
 
 /// The comparisons that are not the order of records, as those that refuse a table and those that do not.
@@ -501,23 +587,23 @@ fn judged_by_others(records: &[[u8; RECORD]]) -> [Vec<&'static str>; 2] {
 fn tables_that_other_orders_refuse() {
     let refusing = |records: &[[u8; RECORD]]| judged_by_others(records)[0].join(", ");
     let at = |start: usize, tag: u32| record(tag, start, &[1]);
-    let bare = |tag: u32| record(tag, 0, &[]);
+    let uncalled = |tag: u32| record(tag, 0, &[]);
     assert_eq!(refusing(&[at(0, 1), at(1, 2)]), "");
     assert_eq!(refusing(&[at(0, 2), at(1, 1)]), "by start or tag, by tag alone");
     assert_eq!(refusing(&[at(0, 1), at(0, 2)]), "by starts that differ");
     let by_byte = "by starts that differ, by the lowest byte of tags, by the bytes of tags in turn";
     assert_eq!(refusing(&[at(0, 255), at(0, 256)]), by_byte);
     assert_eq!(refusing(&[at(0, 1), at(0, 0x8000_0002)]), "by starts that differ, by tags with a sign");
-    assert_eq!(refusing(&[bare(1), at(0, 2)]), "by starts that differ, without calls last");
-    let of_bare = "by start or tag, by tag alone, without calls last, without calls by tag alone";
-    assert_eq!(refusing(&[bare(2), at(1, 1)]), of_bare);
+    assert_eq!(refusing(&[uncalled(1), at(0, 2)]), "by starts that differ, without calls last");
+    let of_uncalled = "by start or tag, by tag alone, without calls last, without calls by tag alone";
+    assert_eq!(refusing(&[uncalled(2), at(1, 1)]), of_uncalled);
 }
 
 #[test]
 fn tables_out_of_order_that_others_take() {
     let taking = |records: &[[u8; RECORD]]| judged_by_others(records)[1].join(", ");
     let at = |start: usize, tag: u32| record(tag, start, &[1]);
-    let bare = |tag: u32| record(tag, 0, &[]);
+    let uncalled = |tag: u32| record(tag, 0, &[]);
     assert_eq!(taking(&[at(1, 2), at(0, 1)]), "none");
     assert_eq!(taking(&[at(1, 1), at(0, 2)]), "none, by start and tag, both, by tag alone");
     let by_tag = "none, by start alone, by start and tag, both";
@@ -526,11 +612,11 @@ fn tables_out_of_order_that_others_take() {
     assert_eq!(taking(&[at(0, 256), at(0, 255)]), format!("{by_tag}, {by_byte}"));
     assert_eq!(taking(&[at(0, 0x8000_0002), at(0, 1)]), format!("{by_tag}, by tags with a sign"));
     assert_eq!(taking(&[at(0, 1), at(2, 3), at(1, 2)]), "none, with record 0");
-    let bare_by_start = "of fragments with calls, without calls by start alone, without calls last";
-    assert_eq!(taking(&[at(0, 2), bare(1)]), format!("{by_tag}, by the highest byte of tags, {bare_by_start}"));
-    let bare_by_tag = "by tag alone, without calls last, without calls by tag alone";
+    let uncalled_by_start = "of fragments with calls, without calls by start alone, without calls last";
+    assert_eq!(taking(&[at(0, 2), uncalled(1)]), format!("{by_tag}, by the highest byte of tags, {uncalled_by_start}"));
+    let uncalled_by_tag = "by tag alone, without calls last, without calls by tag alone";
     let both = "none, by start and tag, both, of fragments with calls";
-    assert_eq!(taking(&[at(1, 1), bare(2)]), format!("{both}, {bare_by_tag}"));
+    assert_eq!(taking(&[at(1, 1), uncalled(2)]), format!("{both}, {uncalled_by_tag}"));
 }
 
 /// Every kind that is not named for it makes its tables in order, but for those that have too many records.

@@ -5,7 +5,7 @@ use crate::brute;
 use crate::counts::conflict_counts;
 use crate::expected::{Accepted, Outcome as TableOutcome};
 use crate::library::{Buffers, Call, Returned};
-use crate::record::{places_of, record, set_cell, span, start, stretch, tag, whole_records, Matrix, RECORD};
+use crate::record::{self, places_of, set_cell, span, start, tag, whole_records, Matrix, RECORD};
 use crate::rules::{call_fault, pack_fault, Refusal};
 use crate::service::{Buffer, Service};
 use haplotypes::Outcome;
@@ -91,8 +91,7 @@ fn counted(n: usize, after: &mut Buffers) -> usize {
 
 fn packed(n: usize, after: &mut Buffers) -> usize {
     let rows = Matrix::of_cells(n, after.tags.lent().len(), after.cells.lent()).rows;
-    let packed = |(row, &tag): (&Vec<u8>, &u32)| record(tag, stretch(row).start, &row[stretch(row)]);
-    let table: Vec<u8> = rows.iter().zip(after.tags.lent()).flat_map(packed).collect();
+    let table = record::packed(&rows, after.tags.lent());
     after.table.put(&table);
     rows.len()
 }

@@ -5,7 +5,7 @@ use crate::guarded::Guarded;
 use crate::library::{Buffers, Call, Library};
 use crate::listing::hexadecimal;
 use crate::order::{falls, keys_of_table};
-use crate::record::{places_of, record, set_tag, tag, whole_records, RECORD};
+use crate::record::{places_of, record, set_tag, span, tag, whole_records, RECORD};
 use crate::rng::Rng;
 use crate::rules::MOST_FRAGMENTS;
 use crate::seen::{Counts, Seen, Verdict};
@@ -68,4 +68,6 @@ fn count(table: &[u8], wanted: u32, counts: &mut Counts) {
     counts.add(Seen::FoundPastMost, places.first().is_some_and(|&first| first >= MOST_FRAGMENTS) as usize);
     let past_fall = |&first: &usize| falls(&keys_of_table(table)).next().is_some_and(|fall| first >= fall);
     counts.add(Seen::FoundOutOfOrder, places.first().is_some_and(past_fall) as usize);
+    let is_uncalled = |&first: &usize| span(&table[RECORD * first..]) == 0;
+    counts.add(Seen::FoundUncalled, places.first().is_some_and(is_uncalled) as usize);
 }

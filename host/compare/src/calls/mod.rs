@@ -6,13 +6,14 @@ mod order;
 mod pack;
 pub mod round_trips;
 mod sizes;
+mod uncalled;
 
 use crate::agree;
 use crate::expected::Outcome as TableOutcome;
 use crate::generate::Cells;
 use crate::guarded::Guarded;
 use crate::library::{Buffers, Call, Library, Returned};
-use crate::record::{column_count, Matrix, RECORD};
+use crate::record::{column_count, first_without_calls, Matrix, RECORD};
 use crate::rng::Rng;
 use crate::rules::{table_fault, LEAST_WORK};
 use crate::seen::{Counts, Seen, Verdict};
@@ -43,8 +44,9 @@ pub fn all(library: Library, table: &Table, cells: &Cells, rng: &mut Rng) -> Res
     find::all(library, table.bytes, rng, &mut counts)?;
     pack::all(library, cells, rng, &mut counts)?;
     if round_trips::of_table(library, table.bytes, rng)? {
-        counts.add(Seen::TableRoundTrip, 1);
-        counts.add(Seen::GappedTableRoundTrip, has_gaps(table) as usize);
+        let restored = first_without_calls(table.bytes).is_none();
+        counts.add(if restored { Seen::TableRoundTrip } else { Seen::UncalledRoundTrip }, 1);
+        counts.add(Seen::GappedTableRoundTrip, (restored && has_gaps(table)) as usize);
     }
     if round_trips::of_cells(library, cells, rng)? {
         counts.add(Seen::CellsRoundTrip, 1);
@@ -86,6 +88,7 @@ fn compared(library: Library, mut call: Call, expected: Expected, counts: &mut C
         let long_work = matches!(outcome, Outcome::Accepted(_)) && call.lent.work.lent().len() > LEAST_WORK;
         counts.add(Seen::LongWork(call.service), long_work as usize);
         order::count(&call, outcome, counts);
+        uncalled::count(&call, outcome, counts);
     }
     Ok(())
 }

@@ -4,7 +4,7 @@ use crate::library::Call;
 use crate::order::{falls, keys, other_fault, OTHERS};
 use crate::record::Matrix;
 use crate::rules::too_deep;
-use crate::seen::{Counts, Seen, PLACES};
+use crate::seen::{from_place, Counts, Seen};
 use crate::service::Service;
 use haplotypes::Outcome;
 
@@ -29,7 +29,7 @@ fn count_refused(call: &Call, place: usize, counts: &mut Counts) {
     for other in OTHERS.iter().filter(|other| !other.refuses(&keys, place)) {
         counts.add(Seen::Missed(service, other.name), 1);
     }
-    if let Some(from) = PLACES.into_iter().rfind(|&from| place >= from) {
+    if let Some(from) = from_place(place) {
         counts.add(Seen::OutOfOrderFrom(service, from), 1);
     }
     counts.add(Seen::FirstOutOfOrder(service), (falls(&keys).count() > 1) as usize);

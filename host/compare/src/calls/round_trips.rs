@@ -5,14 +5,15 @@ use super::sizes::Sizes;
 use super::{compared, on_table, pack};
 use crate::generate::Cells;
 use crate::library::{Buffers, Call, Library, Returned};
-use crate::record::{column_count, RECORD};
+use crate::record::{column_count, first_without_calls, RECORD};
 use crate::rng::Rng;
 use crate::rules::{pack_fault, table_fault, MOST_COLUMNS};
 use crate::seen::Counts;
 use crate::service::Service;
 use haplotypes::Outcome;
 
-/// Unpacks a table and packs what came out: the table's bytes. False if the rules refuse the table.
+/// Unpacks a table and packs what came out: the table's bytes, or 17 at the first record without calls and nothing written.
+/// False if the rules refuse the table.
 pub fn of_table(library: Library, table: &[u8], rng: &mut Rng) -> Result<bool, String> {
     let least = column_count(table);
     if table_fault(least, table).is_some() {
@@ -22,8 +23,14 @@ pub fn of_table(library: Library, table: &[u8], rng: &mut Rng) -> Result<bool, S
     let Buffers { cells, tags, .. } = made(library, unpack(n, table, rng)).lent;
     let call = pack::call(n, cells.lent(), tags.lent(), table.len(), rng);
     let mut after = call.lent.clone();
-    after.table.put(table);
-    comes_back(library, call, after, table.len() / RECORD)?;
+    let outcome = match first_without_calls(table) {
+        Some(place) => Outcome::Refused(17, place),
+        None => {
+            after.table.put(table);
+            Outcome::Accepted(table.len() / RECORD)
+        }
+    };
+    comes_back(library, call, after, outcome)?;
     Ok(true)
 }
 
@@ -39,7 +46,8 @@ pub fn of_cells(library: Library, given: &Cells, rng: &mut Rng) -> Result<bool, 
     let mut after = call.lent.clone();
     after.cells.put(cells);
     after.tags.put(tags);
-    comes_back(library, call, after, tags.len()).map_err(|difference| format!("{difference}\n{}", given.shown()))?;
+    let differs = |difference| format!("{difference}\n{}", given.shown());
+    comes_back(library, call, after, Outcome::Accepted(tags.len())).map_err(differs)?;
     Ok(true)
 }
 
@@ -54,8 +62,8 @@ fn made(library: Library, mut call: Call) -> Call {
     call
 }
 
-fn comes_back(library: Library, call: Call, after: Buffers, m: usize) -> Result<(), String> {
-    let expected = Expected { returned: Returned::Outcome(Outcome::Accepted(m)), after };
+fn comes_back(library: Library, call: Call, after: Buffers, outcome: Outcome) -> Result<(), String> {
+    let expected = Expected { returned: Returned::Outcome(outcome), after };
     let there_and_back = |difference| format!("round trip, back by {difference}");
     compared(library, call, expected, &mut Counts::default()).map_err(there_and_back)
 }

@@ -1,5 +1,5 @@
-//! Random cells and tags for pack, with holes between calls and without: most keep its rules, the others are out of order, or
-//! have another fault or several.
+//! Random cells and tags for pack, with holes between calls and without: most keep its rules, the others are out of order, have
+//! fragments without calls, or another fault or several.
 
 use super::rows::{letter, letters, place, punch, tagged, trimmed, Fragment, Row};
 use super::unordered::disorder;
@@ -30,9 +30,8 @@ impl Cells {
 const ROW_CHANGES: [fn(&mut Rng, &mut [u8]); 4] = [hole, unknown_call, another_call, wide];
 
 pub fn cells(rng: &mut Rng) -> Cells {
-    let (m, n) = (size(rng, MOST_FRAGMENTS), size(rng, MOST_COLUMNS));
-    let gapped = rng.pick(&[0, 50, 100]);
-    let rows = (0..m).map(|_| row(rng, n, gapped)).collect();
+    let (m, n) = (size(rng, MOST_FRAGMENTS), columns(rng));
+    let rows = rows(rng, m, n);
     let mut fragments = tagged(rng, rows);
     if m > 0 && rng.chance(50) {
         for _ in 0..rng.between(1, 3) {
@@ -42,9 +41,12 @@ pub fn cells(rng: &mut Rng) -> Cells {
         fragments.sort();
     }
     if m > 0 && rng.chance(15) {
+        without_calls(rng, n, &mut fragments);
+    }
+    if m > 0 && rng.chance(20) {
         disorder(rng, &mut fragments);
         let first = first_out_of_order(&fragments);
-        first.filter(|_| rng.chance(60)).into_iter().for_each(|place| change(rng, n, &mut fragments, place));
+        first.filter(|_| rng.chance(50)).into_iter().for_each(|place| change(rng, n, &mut fragments, place));
     }
     let cells = fragments.iter().flat_map(|fragment| widened(fragment, n)).collect();
     Cells { n, cells, tags: fragments.iter().map(|fragment| fragment.tag).collect() }
@@ -64,15 +66,34 @@ fn widened(fragment: &Fragment, n: usize) -> Vec<u8> {
 /// Mostly small, at times around the most that is lawful.
 fn size(rng: &mut Rng, most: usize) -> usize {
     match rng.below(20) {
-        0 => rng.pick(&[most - 1, most, most + 1]),
-        1..=7 => rng.below(most + 1),
+        0..=1 => rng.pick(&[most - 1, most, most, most + 1]),
+        2..=7 => rng.below(most + 1),
         _ => rng.below(10),
     }
 }
 
-/// A row with one stretch of calls, or none; with holes between the calls in `gapped` of 100 cases.
+/// Mostly one at least, as on no columns every fragment is without calls.
+fn columns(rng: &mut Rng) -> usize {
+    match size(rng, MOST_COLUMNS) {
+        0 if rng.chance(65) => 1,
+        n => n,
+    }
+}
+
+/// In some cases all start at column 0: a fragment that loses its calls is then in order wherever it stands.
+fn rows(rng: &mut Rng, m: usize, n: usize) -> Vec<Row> {
+    let gapped = rng.pick(&[0, 50, 100]);
+    let last_start = if rng.chance(20) { 0 } else { n };
+    let mut started = || {
+        let (start, cells) = row(rng, n, gapped);
+        (start.min(last_start), cells)
+    };
+    (0..m).map(|_| started()).collect()
+}
+
+/// A row with one stretch of calls, where there is a column; with holes between the calls in `gapped` of 100 cases.
 fn row(rng: &mut Rng, n: usize, gapped: usize) -> Row {
-    if n == 0 || rng.chance(10) {
+    if n == 0 {
         return (0, Vec::new());
     }
     let longest = rng.pick(&[4, CELLS, CELLS]);
@@ -82,6 +103,32 @@ fn row(rng: &mut Rng, n: usize, gapped: usize) -> Row {
         punch(rng, &mut cells);
     }
     (start, cells)
+}
+
+/// Takes the calls of some fragments. One of these may be changed: it has another fault beside, or calls again. In some cases all
+/// are then put in order.
+fn without_calls(rng: &mut Rng, n: usize, fragments: &mut [Fragment]) {
+    let places = some_places(rng, fragments.len());
+    for &place in &places {
+        fragments[place] = Fragment { start: 0, cells: Vec::new(), ..fragments[place] };
+    }
+    if rng.chance(40) {
+        let one = rng.pick(&places);
+        change(rng, n, fragments, one);
+    }
+    if rng.chance(40) {
+        fragments.sort();
+    }
+}
+
+/// Mostly one of m places: the first, the last or any. Otherwise all of them, or some.
+fn some_places(rng: &mut Rng, m: usize) -> Vec<usize> {
+    let any = rng.below(m);
+    match rng.below(10) {
+        0 => (0..m).collect(),
+        1..=2 => (0..m).filter(|&place| place == any || rng.chance(20)).collect(),
+        _ => vec![rng.pick(&[0, any, any, m - 1, m - 1])],
+    }
 }
 
 /// A tag that another fragment has, or another row.

@@ -33,7 +33,7 @@ pub fn kinds() -> Vec<Kind> {
         kind("nested", 1000, small::nested),
         kind("single calls", 600, small::singles),
         kind("identical", 400, small::identical),
-        kind("without calls", 50, small::bare),
+        kind("without calls", 50, small::uncalled),
         kind("deep", 300, small::deep),
         kind("up to 12 x 12", 200, small::twelve),
         kind("mates, uniform", 4800, mates::uniform),

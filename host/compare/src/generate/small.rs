@@ -86,7 +86,7 @@ pub fn identical(rng: &mut Rng) -> Vec<u8> {
 }
 
 /// Fragments without calls only, so that the table has no column.
-pub fn bare(rng: &mut Rng) -> Vec<u8> {
+pub fn uncalled(rng: &mut Rng) -> Vec<u8> {
     let m = rng.between(1, SMALL);
     table(rng, vec![(0, Vec::new()); m])
 }

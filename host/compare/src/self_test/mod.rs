@@ -4,6 +4,7 @@
 mod wrong_gaps;
 mod wrong_libraries;
 mod wrong_order;
+mod wrong_uncalled;
 
 use crate::answer::Answer;
 use crate::compare::{listing_says, same_text};
@@ -48,11 +49,26 @@ pub fn unordered_triangle() -> Vec<u8> {
 
 pub const UNORDERED_LISTING: &str = "refused 13 at 2\n";
 
+/// A stored table with fragments without calls: AB, --, --, -A.
+pub fn stored_table() -> Vec<u8> {
+    [record(1, 0, &[A, B]), record(2, 0, &[]), record(3, 0, &[]), record(4, 1, &[A])].concat()
+}
+
+/// By hand: the first and the last conflict on column 1. Without calls there is no conflict, so each is a block by itself.
+pub const STORED_LISTING: &str = "\
+fragments 4 snps 2
+error-free yes
+S 0 11 AB -A 1112 0,1,2,0
+F 0 11 AB -A 1112 0,1,2,0
+C 0 11 AB -A 1112 0,1,2,0
+";
+
 /// The number of wrong expectations, libraries, methods and counts, all noticed.
 pub fn run(listing: Option<&Path>) -> Result<usize, String> {
     let listings = wrong_listings(listing, &printed_table(), PRINTED_LISTING)?
         + wrong_listings(listing, &gapped_triangle(), TRIANGLE_LISTING)?
-        + wrong_listings(listing, &unordered_triangle(), UNORDERED_LISTING)?;
+        + wrong_listings(listing, &unordered_triangle(), UNORDERED_LISTING)?
+        + wrong_listings(listing, &stored_table(), STORED_LISTING)?;
     Ok(listings + wrong_libraries::noticed()? + wrong_methods()? + too_little_seen(false)? + too_little_seen(true)?)
 }
 

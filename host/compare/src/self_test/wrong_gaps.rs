@@ -6,7 +6,7 @@ use super::wrong_libraries::{is_refusal, Wrong};
 use crate::answer::Answer;
 use crate::counts::conflict_counts;
 use crate::library::Call;
-use crate::record::{record, stretch, Matrix, A, B, HOLE};
+use crate::record::{packed, record, stretch, Matrix, A, B, HOLE};
 use crate::rules::{gapped, table_fault};
 use crate::service::{Buffer, Service};
 use crate::{brute, gaps};
@@ -42,20 +42,13 @@ pub fn all() -> Vec<Wrong> {
     all
 }
 
-fn matrix_of(call: &Call) -> Matrix {
-    match call.service {
-        Service::Pack => Matrix::of_cells(call.number, call.lent.tags.lent().len(), call.lent.cells.lent()),
-        _ => Matrix::read(call.lent.table.lent(), call.number),
-    }
-}
-
 /// As before mate pairs: rule 8 for every service.
 fn refusing_holes(service: Service) -> Wrong {
     Wrong::outcome(service, |call, outcome, before| {
         let Accepted(_) = outcome else {
             return;
         };
-        if let Some(refusal) = gapped(&matrix_of(call)) {
+        if let Some(refusal) = gapped(&call.matrix()) {
             *outcome = Refused(8, refusal.place);
             call.lent = before;
         }
@@ -75,7 +68,7 @@ fn late_rule_8(service: Service) -> Wrong {
 fn taking_holes(service: Service, least: fn(&Matrix) -> Answer) -> Wrong {
     Wrong::outcome(service, move |call, outcome, _| {
         if let (Refused(8, _), None) = (*outcome, table_fault(call.number, call.lent.table.lent())) {
-            let answer = least(&matrix_of(call));
+            let answer = least(&call.matrix());
             call.lent.answer.put(&answer.bytes());
             call.lent.work.lent_mut().fill(0);
             *outcome = Accepted(answer.count);
@@ -98,7 +91,7 @@ fn near_mates(matrix: &Matrix) -> Matrix {
 fn of_near_mates(service: Service, buffer: Buffer, fill: impl Fn(&mut Call, Matrix) + Sync + 'static) -> Wrong {
     let wrong = Wrong::new(service, move |call, returned, _| {
         if !is_refusal(returned) {
-            let near = near_mates(&matrix_of(call));
+            let near = near_mates(&call.matrix());
             fill(call, near);
         }
     });
@@ -111,9 +104,7 @@ pub fn near_cells() -> Wrong {
 
 pub fn near_records() -> Wrong {
     of_near_mates(Service::Pack, Buffer::Table, |call, near| {
-        let records = near.rows.iter().zip(call.lent.tags.lent());
-        let table: Vec<u8> =
-            records.flat_map(|(row, &tag)| record(tag, stretch(row).start, &row[stretch(row)])).collect();
+        let table = packed(&near.rows, call.lent.tags.lent());
         call.lent.table.put(&table);
     })
 }
@@ -125,7 +116,7 @@ fn near_counts() -> Wrong {
 fn near_check() -> Wrong {
     Wrong::outcome(Service::Check, |call, outcome, before| {
         if let Accepted(count) = outcome {
-            let answer = brute::check(&near_mates(&matrix_of(call)));
+            let answer = brute::check(&near_mates(&call.matrix()));
             *count = answer.is_none() as usize;
             call.lent = before;
             answer.iter().for_each(|answer| call.lent.answer.put(&answer.bytes()));
@@ -136,7 +127,7 @@ fn near_check() -> Wrong {
 fn near_corrections() -> Wrong {
     Wrong::outcome(Service::Corrections, |call, outcome, _| {
         if let Accepted(count) = outcome {
-            let answer = brute::least_corrections(&near_mates(&matrix_of(call)));
+            let answer = brute::least_corrections(&near_mates(&call.matrix()));
             call.lent.answer.put(&answer.bytes());
             *count = answer.count;
         }
@@ -146,7 +137,7 @@ fn near_corrections() -> Wrong {
 /// Paper 01: document 001 "judges fragments with holes by pairs of columns", and document 000 has what defeats it.
 fn check_by_pairs() -> Wrong {
     Wrong::outcome(Service::Check, |call, outcome, _| {
-        if *outcome == Accepted(1) && gaps::error_free_by_pairs(&matrix_of(call)) {
+        if *outcome == Accepted(1) && gaps::error_free_by_pairs(&call.matrix()) {
             *outcome = Accepted(0);
         }
     })
@@ -155,9 +146,9 @@ fn check_by_pairs() -> Wrong {
 /// Rule 12 by the calls of a column, where no column has over 8.
 fn deep_by_calls_alone() -> Wrong {
     Wrong::outcome(Service::Corrections, |call, outcome, _| {
-        let taken = matches!(outcome, Refused(12, _)) && gaps::deep_by_calls(&matrix_of(call)).is_none();
+        let taken = matches!(outcome, Refused(12, _)) && gaps::deep_by_calls(&call.matrix()).is_none();
         if taken {
-            let answer = brute::least_corrections(&matrix_of(call));
+            let answer = brute::least_corrections(&call.matrix());
             call.lent.answer.put(&answer.bytes());
             *outcome = Accepted(answer.count);
         }
@@ -168,7 +159,7 @@ fn deep_by_calls_alone() -> Wrong {
 fn deep_at_calls() -> Wrong {
     Wrong::outcome(Service::Corrections, |call, outcome, _| {
         if let Refused(12, place) = outcome {
-            *place = gaps::deep_by_calls(&matrix_of(call)).unwrap_or(*place);
+            *place = gaps::deep_by_calls(&call.matrix()).unwrap_or(*place);
         }
     })
 }

@@ -1,8 +1,9 @@
 //! Libraries that are wrong in one way each. The linked one makes the call, and what it returned or left is then spoiled:
 //! a count, a refusal, an element of each buffer or beside it, work left dirty, other counts of conflicts, another part of
-//! the table, and whatever is wrong about holes (`wrong_gaps`) and about the order of records (`wrong_order`).
+//! the table, and whatever is wrong about holes (`wrong_gaps`), about the order of records (`wrong_order`) and about fragments
+//! without calls (`wrong_uncalled`).
 
-use super::{gapped_triangle, must_differ, printed_table, wrong_gaps, wrong_order};
+use super::{gapped_triangle, must_differ, printed_table, stored_table, wrong_gaps, wrong_order, wrong_uncalled};
 use crate::agree;
 use crate::calls::{self, round_trips, Table};
 use crate::counts::conflicts;
@@ -42,15 +43,16 @@ pub fn noticed() -> Result<usize, String> {
     of_gaps.iter().try_for_each(|wrong| compared(&wrong.library(), &gapless_tables()))?;
     all.extend(of_gaps);
     all.iter().try_for_each(|wrong| must_be_noticed(wrong, &tables))?;
-    Ok(all.len() + wrong_orders()? + wrong_round_trips()?)
+    let orders = all_noticed(&wrong_order::all(), &wrong_order::tables(), &wrong_order::plain_tables())?;
+    let uncalled = all_noticed(&wrong_uncalled::all(), &wrong_uncalled::tables(), &wrong_uncalled::plain_tables())?;
+    Ok(all.len() + orders + uncalled + wrong_round_trips()?)
 }
 
-fn wrong_orders() -> Result<usize, String> {
-    let (all, tables) = (wrong_order::all(), wrong_order::tables());
-    compared(&proved, &tables)?;
-    // where every comparison says the same none of these would be noticed
-    all.iter().try_for_each(|wrong| compared(&wrong.library(), &wrong_order::plain_tables()))?;
-    all.iter().try_for_each(|wrong| must_be_noticed(wrong, &tables))?;
+/// The number of wrong libraries, each noticed by these tables, and not by plain ones, of which all say the same.
+fn all_noticed(all: &[Wrong], tables: &[(Vec<u8>, Cells)], plain_tables: &[(Vec<u8>, Cells)]) -> Result<usize, String> {
+    compared(&proved, tables)?;
+    all.iter().try_for_each(|wrong| compared(&wrong.library(), plain_tables))?;
+    all.iter().try_for_each(|wrong| must_be_noticed(wrong, tables))?;
     Ok(all.len())
 }
 
@@ -286,25 +288,29 @@ fn wrong_parts() -> Vec<Wrong> {
 }
 
 /// A cell, a tag and a byte of a record that change on the way there or back, both ways round, without holes and with them;
-/// and far mates that get lost.
+/// far mates that get lost; and records without calls that pack takes, or refuses in another way.
 fn wrong_round_trips() -> Result<usize, String> {
     let places = [(Service::Unpack, Buffer::Cells), (Service::Unpack, Buffer::Tags), (Service::Pack, Buffer::Table)];
     let flipped = places.map(|(service, buffer)| flipping(service, buffer, FIRST, |returned| !is_refusal(returned)));
     let lost = [wrong_gaps::near_cells(), wrong_gaps::near_records()];
     let gapless = trips_noticed(&printed_table(), &printed_cells(), &flipped)?;
     let gapped = [&flipped[..], &lost].map(|wrong| trips_noticed(&gapped_triangle(), &triangle_cells(), wrong));
-    gapped.into_iter().try_fold(gapless, |sum, noticed| Ok(sum + noticed?))
+    let uncalled = table_trips_noticed(&stored_table(), &wrong_uncalled::of_round_trip())?;
+    gapped.into_iter().try_fold(gapless + uncalled, |sum, noticed| Ok(sum + noticed?))
 }
 
 /// The number of round trips by wrong libraries, each noticed.
 fn trips_noticed(table: &[u8], cells: &Cells, wrong: &[Wrong]) -> Result<usize, String> {
-    let both = |library: Library| {
-        let rng = &mut Rng::new(1);
-        [round_trips::of_table(library, table, rng), round_trips::of_cells(library, cells, rng)]
-    };
-    agree("round trips", &[Ok(true), Ok(true)], &both(&proved))?;
-    for wrong in wrong {
-        both(&wrong.library()).into_iter().try_for_each(|compared| must_differ(compared.map(drop)))?;
-    }
-    Ok(2 * wrong.len())
+    let of_cells = |library: Library| round_trips::of_cells(library, cells, &mut Rng::new(1));
+    Ok(table_trips_noticed(table, wrong)? + each_noticed(of_cells, wrong)?)
+}
+
+fn table_trips_noticed(table: &[u8], wrong: &[Wrong]) -> Result<usize, String> {
+    each_noticed(|library| round_trips::of_table(library, table, &mut Rng::new(1)), wrong)
+}
+
+fn each_noticed(trip: impl Fn(Library) -> Result<bool, String>, wrong: &[Wrong]) -> Result<usize, String> {
+    agree("a round trip", &Ok(true), &trip(&proved))?;
+    wrong.iter().try_for_each(|wrong| must_differ(trip(&wrong.library()).map(drop)))?;
+    Ok(wrong.len())
 }

@@ -6,7 +6,7 @@ use super::wrong_libraries::{flipping, Wrong, FIRST};
 use crate::generate::Cells;
 use crate::library::{Call, Returned};
 use crate::order::{falls, keys, keys_of_table, other_fault, Other, OTHERS};
-use crate::record::{column_count, record, tag, whole_records, Matrix, A, B, HOLE, RECORD};
+use crate::record::{column_count, record, span, tag, whole_records, Matrix, A, B, HOLE, RECORD};
 use crate::rules::{too_deep, Refusal};
 use crate::service::Service;
 use haplotypes::Outcome::{self, Accepted, Refused};
@@ -20,7 +20,8 @@ pub fn plain_tables() -> Vec<(Vec<u8>, Cells)> {
 
 pub fn tables() -> Vec<(Vec<u8>, Cells)> {
     let mut all = vec![(unordered_triangle(), fragments(&unordered_triangle()))];
-    all.extend(in_order().iter().chain(&out_of_order()).map(|records| both(records)));
+    all.extend(in_order().iter().map(|records| (records.concat(), with_calls(records))));
+    all.extend(out_of_order().iter().map(|records| both(records)));
     all.extend(with_another_fault().map(|(records, cells)| (records.concat(), cells)));
     all
 }
@@ -35,19 +36,25 @@ fn fragments(table: &[u8]) -> Cells {
     Cells { n, cells: Matrix::read(table, n).rows.concat(), tags: whole_records(table).map(tag).collect() }
 }
 
+/// The fragments with calls, as pack takes no others.
+fn with_calls(records: &[Record]) -> Cells {
+    let called: Vec<Record> = records.iter().filter(|record| span(*record) > 0).copied().collect();
+    fragments(&called.concat())
+}
+
 /// At one start tags rise while their lowest byte falls, and past what has a sign; at the next start a lower tag, after a call
 /// and after none. A fragment without calls stands before another that starts at column 0.
 fn in_order() -> [Vec<Record>; 2] {
     let rising = [0x0000_00ff, 0x0000_0100, 0x7fff_ffff, 0x8000_0000];
-    let [bare, at_0 @ ..] = rising.map(|tag| record(tag, 0, if tag == rising[0] { &[] } else { &[A] }));
+    let [uncalled, at_0 @ ..] = rising.map(|tag| record(tag, 0, if tag == rising[0] { &[] } else { &[A] }));
     let at_1 = record(0x0000_0007, 1, &[B]);
-    [[&[bare][..], &at_0, &[at_1]].concat(), vec![bare, at_1]]
+    [[&[uncalled][..], &at_0, &[at_1]].concat(), vec![uncalled, at_1]]
 }
 
 /// Nothing but the order is broken, and rule 12 in the last.
 fn out_of_order() -> Vec<Vec<Record>> {
     let at = |start: usize, tag: u32| record(tag, start, &[A]);
-    let bare = |tag: u32| record(tag, 0, &[]);
+    let uncalled = |tag: u32| record(tag, 0, &[]);
     let nine = (2..11).map(|tag| at(0, tag));
     vec![
         vec![at(1, 1), at(0, 2)],
@@ -56,8 +63,8 @@ fn out_of_order() -> Vec<Vec<Record>> {
         vec![at(0, 0x8000_0000), at(0, 0x7fff_ffff)],
         vec![at(0, 1), at(1, 2), at(0, 3)],
         vec![at(2, 3), at(1, 2), at(0, 1)],
-        vec![at(0, 2), bare(1)],
-        vec![at(1, 1), bare(2)],
+        vec![at(0, 2), uncalled(1)],
+        vec![at(1, 1), uncalled(2)],
         nine.chain([at(0, 1)]).collect(),
     ]
 }
@@ -90,10 +97,11 @@ fn far_mates_after_another() -> Vec<u8> {
 
 pub fn all() -> Vec<Wrong> {
     let testing = || Service::ALL.into_iter().filter(|&service| service != Service::Find);
-    let missed = OTHERS.iter().filter(|other| other.misses);
-    let made_up = OTHERS.iter().filter(|other| other.makes_up);
-    let mut all: Vec<Wrong> = missed.flat_map(|other| testing().map(|service| missing(service, other))).collect();
-    all.extend(made_up.flat_map(|other| testing().map(|service| making_up(service, other))));
+    let others = || testing().flat_map(|service| OTHERS.iter().map(move |other| (service, other)));
+    let missed = others().filter(|(service, other)| other.misses(*service));
+    let made_up = others().filter(|(service, other)| other.makes_up(*service));
+    let mut all: Vec<Wrong> = missed.map(|(service, other)| missing(service, other)).collect();
+    all.extend(made_up.map(|(service, other)| making_up(service, other)));
     all.extend(testing().flat_map(|service| [after_all(service), before_all(service), before_lengths(service)]));
     all.extend(testing().flat_map(|service| [at_predecessor(service), at_last(service)]));
     all.extend(testing().flat_map(|service| rules_before_13(service).map(move |rule| before_rule(service, rule))));
@@ -102,7 +110,7 @@ pub fn all() -> Vec<Wrong> {
     all
 }
 
-/// The rules of a record, or of pack's fragments, that come before 13.
+/// The rules of a record, or of pack's fragments, that come before 13, but for 17 (`wrong_uncalled`).
 fn rules_before_13(service: Service) -> impl Iterator<Item = u8> {
     let of_table = move |rule: &u8| *rule != 8 || !service.takes_holes();
     let of_pack = |rule: &u8| matches!(rule, 4 | 6 | 9);
