@@ -159,13 +159,14 @@ static void set_call(enum service which)
         out[k] = (struct lent){outputs + k * OUTPUT, lengths[k]};
 }
 
-/* Is the code one of an accepted call? S and F alone may refuse mates, and C tables that are too deep. */
+/* Is the code one of an accepted call? S and F alone may refuse mates, C tables that are too deep, and pack fragments without calls. */
 static int accepted(uint64_t code)
 {
     const uint64_t number = service == CHECK ? haplotypes_verdict_refusal(code) : haplotypes_count_refusal(code);
     const int gapped = number == HAPLOTYPES_GAPPED && (service == SNPS || service == FRAGMENTS);
     const int deep = number == HAPLOTYPES_TOO_DEEP && service == CORRECTIONS;
-    if (number != HAPLOTYPES_ACCEPTED && !gapped && !deep)
+    const int uncalled = number == HAPLOTYPES_NO_CALLS && service == PACK;
+    if (number != HAPLOTYPES_ACCEPTED && !gapped && !deep && !uncalled)
         fail(service_names[service], "refuses a table");
     return number == HAPLOTYPES_ACCEPTED;
 }
