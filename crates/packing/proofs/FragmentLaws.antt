@@ -14,11 +14,11 @@ use Rattle.below.specs.Below.{_==_, _<?_, _and_, isnt, anyBelow, tab, concat}
 use Rattle.records.specs.Writing.{callsStart, callsEnd, callsSpan, withoutCalls, recordOf, codesOf, writable, rowOf}
 use Rattle.records.specs.Outcome.{Verdict}
 use Rattle.records.specs.Rules.{rule, decide, precedes, outOfOrder, earlierRules}
-use Rattle.below.proofs.BelowLaws.{both, isnt-==, isnt-<?, le-≤?, le-isnt, any-ext, none-at, none-of}
+use Rattle.below.proofs.BelowLaws.{both, same-test, ==-eq, eq-==, isnt-==, isnt-<?, le-≤?, le-isnt, any-ext, none-at, none-of}
 use Rattle.below.proofs.SearchLaws.{<?-false}
 use Rattle.below.proofs.MemberLaws.{concat-of, tab-of}
 use Rattle.records.proofs.RuleLaws.{NoneBroken, decide-append, unbroken, all-unbroken, rows-single}
-use Rattle.records.proofs.ExtentLaws.{none-called}
+use Rattle.records.proofs.ExtentLaws.{extent-of, none-called}
 use Rattle.records.proofs.KeptLaws.{rule-unbroken}
 use Rattle.records.proofs.PackLaws.{calls-same, recordOf-same}
 use Rattle.writing.proofs.ScanLaws.{start-le-end}
@@ -74,8 +74,16 @@ module _ (n : ℕ) (cells : List ℕ) (i : ℕ) {at : ℕ} (here : at ≡ i * n)
     unfolding callsSpan
     span-read = sym (ap₂ _-_ ends (starts ∙ sym row-start) ∙ row-span)
 
-    pub empty-read : withoutCalls n (rowOf n cells i) ≡ (end - start == 0)
-    empty-read = none-called n (rowOf n cells i) ∙ ap (λ (s : ℕ). s == 0) span-read
+    -- whether it has a call, from its end
+    pub empty-read : withoutCalls n (rowOf n cells i) ≡ (end == 0)
+    empty-read =
+        let x = extent-of n (rowOf n cells i) in
+        let s = span-read in
+        let w = start-within in
+        none-called n (rowOf n cells i)
+        ∙ same-test _ _
+        (λ t. let e = ==-eq _ _ t in let z = x .none e in eq-== _ _ (omega arith))
+        (λ t. let e = ==-eq _ _ t in eq-== _ _ (omega arith))
 
 -- 13, from the starts of a fragment and of the one before it
 pub order-read : (n : ℕ) (cells tags : List ℕ) (i : ℕ) {start last : ℕ} {fallen : Bool} → Starts n cells i start last

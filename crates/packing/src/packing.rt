@@ -100,11 +100,11 @@ fn fragment_fault(
     if any_unknown(row) {
         return Outcome::Refused(6, i);
     }
-    let span = calls_end(row) - start;
-    if span == 0 {
+    let end = calls_end(row);
+    if end == 0 {
         return Outcome::Refused(17, i);
     }
-    if 96 < span {
+    if 96 < end - start {
         return Outcome::Refused(4, i);
     }
     if tag_before(tags, i) {

@@ -49,20 +49,15 @@ known c =
     let row = c .before .before .before in
     sym (row-unknown _ _ _ refl (row-in row)) ∙ sym (c .before .any-unknown .ensures) ∙ c .if1 .left
 
-sub-span : tie.Need-sub-span
-sub-span c =
-    let row = c .before .before .before .before in
-    start-within _ _ _ refl (row-in row) (row .before .before .pre .1 .1 .here) (c .calls-end .ensures)
-
--- 17, from the span that is read
+-- 17, from the end that is read
 empty-is : (c : tie.After-calls-end)
     → let args = c .before .before .before .before .before .before .args in
-    withoutCalls (args .n) (rowOf (args .n) (args .cells .now) (args .i)) ≡ (c .calls-end .result - args .start == 0)
+    withoutCalls (args .n) (rowOf (args .n) (args .cells .now) (args .i)) ≡ (c .calls-end .result == 0)
 empty-is c =
     let row = c .before .before .before .before in
     empty-read _ _ _ refl (row-in row) (row .before .before .pre .1 .1 .here) (c .calls-end .ensures)
 
--- 4, from the same
+-- 4, from the span that is read
 span-is : (c : tie.After-calls-end)
     → let args = c .before .before .before .before .before .before .args in
     (96 <? callsSpan (args .n) (rowOf (args .n) (args .cells .now) (args .i))) ≡ (96 <? c .calls-end .result - args .start)
@@ -80,6 +75,11 @@ past-17 : (c : tie.Else2)
     decide (fragmentRules (args .n) (args .cells .now) (args .tags .now) (args .i)) (accepted 0) ≡ decide (rule 4 (args .i) (96 <? callsSpan (args .n) (rowOf (args .n) (args .cells .now) (args .i))) ∷ earlierRules (packedStart (args .n) (args .cells .now)) (packedTag (args .tags .now)) (args .i)) (accepted 0)
 unfolding fragmentRules
 past-17 c = rule-kept _ _ _ (known (c .before .before)) ∙ rule-kept _ _ _ (empty-is (c .before) ∙ ==-false _ _ (c .if2 .left))
+
+sub-if3 : tie.Need-sub-if3
+sub-if3 c =
+    let row = c .before .before .before .before .before in
+    start-within _ _ _ refl (row-in row) (row .before .before .pre .1 .1 .here) (c .before .calls-end .ensures)
 
 returns-3 : tie.Need-returns-3
 returns-3 c = sym (past-17 (c .before) ∙ rule-broken _ _ _ (span-is (c .before .before) ∙ <?-true _ _ (c .if3 .taken)))
@@ -123,8 +123,8 @@ fragment-fault-spec =
     (λ c κs. search needs)
     returns
     (λ c κs. search needs)
-    sub-span
     returns-2
+    sub-if3
     returns-3
     (λ c κs. search needs)
     returns-4
