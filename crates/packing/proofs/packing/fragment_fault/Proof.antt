@@ -1,7 +1,6 @@
 -- `packing::fragment_fault` meets its contract.
 -- Assumes nothing.
 use mathlib.Core.Path.{_≡_, refl, sym, ap, _∙_}
-use mathlib.Core.Bool.{false}
 use mathlib.Core.List.{[], _∷_}
 use Prim.Native.Nat.{ℕ, _+_, _*_, _-_, _≤_}
 use native.Mathlib.Omega.{arith}
@@ -35,19 +34,15 @@ add-row c = let r = row-in c in omega arith
 part-row-end : tie.Need-part-row-end
 part-row-end c = row-in c
 
+-- 6, as it is read
+unknown-is : (c : tie.After-any-unknown)
+    → let args = c .before .before .before .before .args in
+    anyBelow (args .n) (λ k. 2 <? rowOf (args .n) (args .cells .now) (args .i) k) ≡ c .any-unknown .result
+unknown-is c = sym (row-unknown _ _ _ refl (row-in (c .before .before))) ∙ sym (c .any-unknown .ensures)
+
 returns : tie.Need-returns
 unfolding fragmentRules
-returns c =
-    let row = c .before .before .before in
-    sym (rule-broken _ _ _ (sym (row-unknown _ _ _ refl (row-in row)) ∙ sym (c .before .any-unknown .ensures) ∙ c .if1 .taken))
-
--- 6 is kept
-known : (c : tie.Else1)
-    → let args = c .before .before .before .before .before .args in
-    anyBelow (args .n) (λ k. 2 <? rowOf (args .n) (args .cells .now) (args .i) k) ≡ false
-known c =
-    let row = c .before .before .before in
-    sym (row-unknown _ _ _ refl (row-in row)) ∙ sym (c .before .any-unknown .ensures) ∙ c .if1 .left
+returns c = sym (rule-broken _ _ _ (unknown-is (c .before) ∙ c .if1 .taken))
 
 -- 17, from the end that is read
 empty-is : (c : tie.After-calls-end)
@@ -67,14 +62,14 @@ span-is c =
 
 returns-2 : tie.Need-returns-2
 unfolding fragmentRules
-returns-2 c = sym (rule-kept _ _ _ (known (c .before .before)) ∙ rule-broken _ _ _ (empty-is (c .before) ∙ ==-true _ _ (c .if2 .taken)))
+returns-2 c = sym (rule-kept _ _ _ (unknown-is (c .before .before .before) ∙ c .before .before .if1 .left) ∙ rule-broken _ _ _ (empty-is (c .before) ∙ ==-true _ _ (c .if2 .taken)))
 
--- 17 is kept too
+-- 6 and 17 are kept
 past-17 : (c : tie.Else2)
     → let args = c .before .before .before .before .before .before .before .args in
     decide (fragmentRules (args .n) (args .cells .now) (args .tags .now) (args .i)) (accepted 0) ≡ decide (rule 4 (args .i) (96 <? callsSpan (args .n) (rowOf (args .n) (args .cells .now) (args .i))) ∷ earlierRules (packedStart (args .n) (args .cells .now)) (packedTag (args .tags .now)) (args .i)) (accepted 0)
 unfolding fragmentRules
-past-17 c = rule-kept _ _ _ (known (c .before .before)) ∙ rule-kept _ _ _ (empty-is (c .before) ∙ ==-false _ _ (c .if2 .left))
+past-17 c = rule-kept _ _ _ (unknown-is (c .before .before .before) ∙ c .before .before .if1 .left) ∙ rule-kept _ _ _ (empty-is (c .before) ∙ ==-false _ _ (c .if2 .left))
 
 sub-if3 : tie.Need-sub-if3
 sub-if3 c =
