@@ -7,7 +7,7 @@ use Prim.Native.String.{String}
 use lib.Dec.{eqb}
 use lib.ListN.{length, replicate}
 use Rattle.below.specs.Below.{bit, if_then_else_, _==_, _<?_, _≤?_, _and_, _or_, isnt, allBelow, anyBelow, sumBelow, countBelow, firstBelow, endBelow, tab, tabFrom, concat}
-use Rattle.records.specs.Record.{littleEndian, tagOf, startOf, spanOf, byte7Of, isCall, cellOf, codeAt}
+use Rattle.records.specs.Record.{littleEndian, tagOf, startOf, spanOf, gradeOf, isCall, cellOf, codeAt}
 use Rattle.records.specs.Table.{fragments, recordAt, partStart, partLength, position, unpackedCells, unpackedTags}
 use Rattle.records.specs.Writing.{bytesOf, cellBytes, callsEnd, callsStart, callsSpan, withoutCalls, cut, laidOut, recordOf, rowOf, packed}
 use Rattle.records.specs.Outcome.{Verdict, accepted}
@@ -160,7 +160,7 @@ left call outcome buffers = let r = leaves call in sameVerdict (r .0) outcome &&
 passes : Trial → Bool
 unfolding marks cells frag tableFrom leaves workLeft lent nines work9 answer9 unpackOn checkOn countsOn SOn FOn COn answers corrects allKeep freeOn countOn coverageOn ruledOn costOf left sameVerdict sameList hostRead
     _==_ _<?_ _≤?_ _and_ _or_ isnt allBelow anyBelow sumBelow countBelow firstBelow endBelow tab tabFrom concat
-    littleEndian tagOf startOf spanOf byte7Of isCall cellOf codeAt fragments recordAt partStart partLength position unpackedCells unpackedTags
+    littleEndian tagOf startOf spanOf gradeOf isCall cellOf codeAt fragments recordAt partStart partLength position unpackedCells unpackedTags
     bytesOf cellBytes callsEnd callsStart callsSpan withoutCalls cut laidOut recordOf rowOf packed
     decide outOfFrame strayBits unknownCall openEnd gapIn gapped tagTwice precedes outOfOrder earlierRules spanRules recordRules gaplessRules tableRules gaplessTableRules sizeRules
     choices passing some first leastOf firstLeast marked zeros keepAll keepLists gridOf withCells callsConflict conflictOn conflictOnKept stretchCovers coverage conflictCount conflictCounts

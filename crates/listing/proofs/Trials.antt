@@ -8,7 +8,7 @@ use Prim.Native.Char.{code}
 use Prim.Native.String.{String}
 use lib.Dec.{eqb}
 use Rattle.below.specs.Below.{if_then_else_, _==_, _<?_, _≤?_, _and_, _or_, isnt, allBelow, anyBelow, sumBelow, countBelow, firstBelow, endBelow, maxBelow, tab, tabFrom, concat}
-use Rattle.records.specs.Record.{littleEndian, tagOf, startOf, spanOf, byte7Of, isCall, cellOf, codeAt}
+use Rattle.records.specs.Record.{littleEndian, tagOf, startOf, spanOf, gradeOf, isCall, cellOf, codeAt}
 use Rattle.records.specs.Table.{fragments, recordAt, columnCount}
 use Rattle.records.specs.Writing.{bytesOf, cellBytes}
 use Rattle.records.specs.Outcome.{refused}
@@ -66,7 +66,7 @@ trials =
 pub all-pass : failing 0 trials ≡ []
 unfolding printed holed passes failing trials sameList filled made
     _==_ _<?_ _≤?_ _and_ _or_ isnt allBelow anyBelow sumBelow countBelow firstBelow endBelow maxBelow tab tabFrom concat
-    littleEndian tagOf startOf spanOf byte7Of isCall cellOf codeAt fragments recordAt columnCount bytesOf cellBytes
+    littleEndian tagOf startOf spanOf gradeOf isCall cellOf codeAt fragments recordAt columnCount bytesOf cellBytes
     decide outOfFrame strayBits unknownCall openEnd gapIn gapped tagTwice precedes outOfOrder earlierRules spanRules recordRules gaplessRules tableRules gaplessTableRules sizeRules tableVerdict
     choices passing some first leastOf firstLeast marked zeros keepAll keepLists gridOf withCells callsConflict conflictOn conflictOnKept stretchCovers coverage
     sidesOf sideLists sameSide lawful errorFree firstSides snpKeepMarks fragmentKeepMarks

@@ -1,5 +1,6 @@
 pub mod ByteLaws
 pub mod FieldLaws
+pub mod GradeLaws
 pub mod ExtentLaws
 pub mod PartLaws
 pub mod RuleLaws

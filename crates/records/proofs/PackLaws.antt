@@ -10,7 +10,7 @@ use lib.Dec.{T}
 use lib.ListN.{length, getD, take, drop, length-drop, take-append-drop}
 use lib.Seq.{getD-take, getD-drop, length-take-le, take-add, drop-cons}
 use Rattle.below.specs.Below.{_<?_, isnt}
-use Rattle.records.specs.Record.{littleEndian, tagOf, startOf, spanOf, byte7Of, isCall, cellOf, codeAt}
+use Rattle.records.specs.Record.{littleEndian, tagOf, startOf, spanOf, gradeOf, isCall, cellOf, codeAt}
 use Rattle.records.specs.Writing.{bytesOf, cellBytes, callsStart, callsSpan, cut, laidOut, recordOf}
 use Rattle.records.specs.Rules.{outOfFrame, strayBits, unknownCall, openEnd}
 use Rattle.below.proofs.BelowLaws.{isnt-isnt, neither, not-both, none-at, if-ind, if-true, if-false, ==-eq, eq-==, isnt-==, <?-lt, lt-<?, isnt-<?, le-isnt, le-≤?}
@@ -50,9 +50,9 @@ module _ (n : ℕ) (r : List ℕ) (x : Sound n r) where
   unfolding outOfFrame
   sound-empty e = ==-eq _ _ (isnt-isnt _ (not-both _ _ (neither _ _ (x .frame) .1) (eq-== _ _ e)))
 
-  pub sound-byte7 : byte7Of r ≡ 0
+  pub sound-grade : gradeOf r ≡ 0
   unfolding strayBits
-  sound-byte7 = ==-eq _ _ (isnt-isnt _ (neither _ _ (x .bits) .0))
+  sound-grade = ==-eq _ _ (isnt-isnt _ (neither _ _ (x .bits) .0))
 
   pub sound-after : (k : ℕ) → spanOf r ≤ k → k < 96 → cellOf r k ≡ 0
   unfolding strayBits
@@ -111,13 +111,13 @@ module _ (r : List ℕ) (whole : length r ≡ 32) (bytes : (i : ℕ) → i < 32 
 
   -- a sound record of 32 bytes, written again from its tag and its codes
   pub record-again : (n : ℕ) → Sound n r → recordOf n (tagOf r) (codeAt r) ≡ r
-  unfolding recordOf laidOut tagOf startOf spanOf byte7Of
+  unfolding recordOf laidOut tagOf startOf spanOf gradeOf
   record-again n x =
       let row = codeAt r in
       let one = extent-one (extent-of n row) (sound-extent n r x) in
       ap₂ (λ (f s : ℕ). laidOut (tagOf r) f s (cut f s row)) (one .0) (one .1)
       ∙ ap₂ (λ (a b : List ℕ). a ++ b ++ spanOf r ∷ 0 ∷ cellBytes (cut (startOf r) (spanOf r) row)) (field-again 4 0 (omega arith)) (field-again 2 4 (omega arith))
-      ∙ ap₂ (λ (z : ℕ) (c : List ℕ). take 4 r ++ take 2 (drop 4 r) ++ spanOf r ∷ z ∷ c) (sym (sound-byte7 n r x)) (cellBytes-again r (cut (startOf r) (spanOf r) row) whole bytes (cut-again n r x))
+      ∙ ap₂ (λ (z : ℕ) (c : List ℕ). take 4 r ++ take 2 (drop 4 r) ++ spanOf r ∷ z ∷ c) (sym (sound-grade n r x)) (cellBytes-again r (cut (startOf r) (spanOf r) row) whole bytes (cut-again n r x))
       ∙ parts
 
 -- ---- row, record, row
@@ -134,9 +134,9 @@ pub span-recordOf : (n t : ℕ) (row : ℕ → ℕ) → spanOf (recordOf n t row
 unfolding recordOf laidOut spanOf bytesOf
 span-recordOf n t row = refl
 
-pub byte7-recordOf : (n t : ℕ) (row : ℕ → ℕ) → byte7Of (recordOf n t row) ≡ 0
-unfolding recordOf laidOut byte7Of bytesOf
-byte7-recordOf n t row = refl
+pub grade-recordOf : (n t : ℕ) (row : ℕ → ℕ) → gradeOf (recordOf n t row) ≡ 0
+unfolding recordOf laidOut gradeOf bytesOf
+grade-recordOf n t row = refl
 
 pub cut-in : (f s : ℕ) (row : ℕ → ℕ) (i : ℕ) → i < s → cut f s row i ≡ row (f + i)
 unfolding cut

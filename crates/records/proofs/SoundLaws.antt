@@ -13,7 +13,7 @@ use Rattle.below.proofs.BelowLaws.{is-false, isnt-or, isnt-and, T-isnt-isnt, no
 use Rattle.records.proofs.ExtentLaws.{Extent, extent-of, extent-one, calls, call-range, gap-within}
 use Rattle.records.proofs.FieldLaws.{codeAt-in, codeAt-out}
 use Rattle.records.proofs.FaultLaws.{span-extent}
-use Rattle.records.proofs.PackLaws.{Sound, sound-small, sound-extent, span-recordOf, byte7-recordOf, start-recordOf, cell-recordOf, cut-in, cut-out, extent-same}
+use Rattle.records.proofs.PackLaws.{Sound, sound-small, sound-extent, span-recordOf, grade-recordOf, start-recordOf, cell-recordOf, cut-in, cut-out, extent-same}
 
 -- ---- the row of a sound record
 
@@ -69,7 +69,7 @@ module _ (n t : ℕ) (row : ℕ → ℕ) (wide : n ≤ 128) (small : (c : ℕ) �
       record {
         frame = isnt-or _ _ (isnt-or _ _ (le-isnt _ _ (omega arith)) (le-isnt _ _ (omega arith)))
             (isnt-and _ _ (λ q. T-isnt-isnt _ (eq-== _ _ (f ∙ x .none (sym s ∙ ==-eq _ _ q)))));
-        bits = isnt-or _ _ (T-isnt-isnt _ (eq-== _ _ (byte7-recordOf n t row)))
+        bits = isnt-or _ _ (T-isnt-isnt _ (eq-== _ _ (grade-recordOf n t row)))
             (none-of 96 _ (λ k l. isnt-and _ _ (λ q. let h = ≤?-le _ _ q in T-isnt-isnt _ (eq-== _ _ (cell-recordOf n t row wide small k l ∙ cut-out _ _ row k (omega arith))))));
         codes = none-of (spanOf (recordOf n t row)) _ (λ k l.
             ne-isnt _ _ (λ e. let c = cell-row k (omega arith) in let h = small (callsStart n row + k) (omega arith) in omega arith));

@@ -9,7 +9,7 @@ use Prim.Native.String.{String}
 use lib.Dec.{eqb}
 use lib.ListN.{replicate}
 use Rattle.below.specs.Below.{if_then_else_, _==_, _<?_, _≤?_, _and_, _or_, isnt, anyBelow, sumBelow, firstBelow, endBelow, maxBelow, tab, tabFrom, concat}
-use Rattle.records.specs.Record.{littleEndian, tagOf, startOf, spanOf, byte7Of, isCall, cellOf, codeAt}
+use Rattle.records.specs.Record.{littleEndian, tagOf, startOf, spanOf, gradeOf, isCall, cellOf, codeAt}
 use Rattle.records.specs.Table.{fragments, recordAt, position, columnCount, unpackedCells, unpackedTags}
 use Rattle.records.specs.Writing.{bytesOf, cellBytes, callsEnd, callsStart, callsSpan, cut, laidOut, recordOf, rowOf, packed}
 use Rattle.records.specs.Outcome.{Verdict, accepted, refused}
@@ -36,7 +36,7 @@ pub data Trial : Type 0 where
 passes : Trial → Bool
 unfolding cells frag made filled sameVerdict sameList
     _==_ _<?_ _≤?_ _and_ _or_ isnt anyBelow sumBelow firstBelow endBelow maxBelow tab tabFrom concat
-    littleEndian tagOf startOf spanOf byte7Of isCall cellOf codeAt fragments recordAt position columnCount unpackedCells unpackedTags
+    littleEndian tagOf startOf spanOf gradeOf isCall cellOf codeAt fragments recordAt position columnCount unpackedCells unpackedTags
     bytesOf cellBytes callsEnd callsStart callsSpan cut laidOut recordOf rowOf packed
     decide outOfFrame strayBits unknownCall openEnd gapIn gapped tagTwice precedes outOfOrder earlierRules spanRules recordRules gaplessRules tableRules gaplessTableRules sizeRules tableVerdict
 passes (decides n table v) = sameVerdict (tableVerdict n table) v

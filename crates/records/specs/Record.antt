@@ -23,9 +23,9 @@ startOf r = littleEndian (take 2 (drop 4 r))
 unfoldable pub spanOf : List ℕ → ℕ
 spanOf r = getD r 6 0
 
--- byte 7, which the table of fields gives as 0
-unfoldable pub byte7Of : List ℕ → ℕ
-byte7Of r = getD r 7 0
+-- "grade": byte 7
+unfoldable pub gradeOf : List ℕ → ℕ
+gradeOf r = getD r 7 0
 
 -- "call": a code A (1) or B (2); 0 is a hole, and 3 has no meaning
 unfoldable pub isCall : ℕ → Bool

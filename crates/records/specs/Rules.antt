@@ -5,7 +5,7 @@ use mathlib.Core.Bool.{Bool}
 use mathlib.Core.List.{List, [], _∷_, _++_}
 use lib.ListN.{length}
 use Rattle.below.specs.Below.{if_then_else_, _==_, _<?_, _≤?_, _and_, _or_, isnt, anyBelow, tab, concat}
-use Rattle.records.specs.Record.{startOf, spanOf, byte7Of, isCall, cellOf}
+use Rattle.records.specs.Record.{startOf, spanOf, gradeOf, isCall, cellOf}
 use Rattle.records.specs.Table.{fragments, recordAt, startAt, tagAt}
 use Rattle.records.specs.Outcome.{Verdict, accepted, refused}
 
@@ -29,7 +29,7 @@ outOfFrame n r = 96 <? spanOf r or n <? startOf r + spanOf r or spanOf r == 0 an
 
 -- 5, "stray bits": byte 7 not 0, or any cell after the span not 0
 unfoldable pub strayBits : List ℕ → Bool
-strayBits r = isnt (byte7Of r == 0) or anyBelow 96 (λ k. spanOf r ≤? k and isnt (cellOf r k == 0))
+strayBits r = isnt (gradeOf r == 0) or anyBelow 96 (λ k. spanOf r ≤? k and isnt (cellOf r k == 0))
 
 -- 6, "unknown call": a code 3 in the span
 unfoldable pub unknownCall : List ℕ → Bool

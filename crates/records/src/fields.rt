@@ -2,7 +2,7 @@
 ghost use mathlib.Core.Path.{_≡_};
 ghost use Prim.Native.Nat.{_*_, _/_, _%_, _^_};
 ghost use lib.ListN.{getD};
-ghost use Rattle.records.specs.Record.{isCall, tagOf, startOf, spanOf, byte7Of, cellOf};
+ghost use Rattle.records.specs.Record.{isCall, tagOf, startOf, spanOf, gradeOf, cellOf};
 
 // Byte i, or 0 past the end.
 pub fn byte(part: &[u8], i: usize) -> u8
@@ -38,9 +38,9 @@ pub fn span(part: &[u8]) -> u8
     byte(part, 6)
 }
 
-// Byte 7, which a table that is accepted has as 0.
-pub(crate) fn byte7(part: &[u8]) -> u8
-    ensures { λ r. ⌜ r ≡ byte7Of (now (part .entry)) ⌝ }
+// The grade: byte 7.
+pub fn grade(part: &[u8]) -> u8
+    ensures { λ r. ⌜ r ≡ gradeOf (now (part .entry)) ⌝ }
 {
     byte(part, 7)
 }

@@ -1,6 +1,7 @@
 // Records of 32 bytes: their fields and cells, and the rules of a table.
 
 mod fields;
+mod grades;
 mod order;
 mod rows;
 mod rules;
@@ -8,10 +9,12 @@ mod table;
 
 pub use fields::byte;
 pub use fields::cell;
+pub use fields::grade;
 pub use fields::is_call;
 pub use fields::span;
 pub use fields::start;
 pub use fields::tag;
+pub use grades::weight;
 pub use order::comes_before;
 pub use rows::clear;
 pub use rows::fill_row;

@@ -10,9 +10,9 @@ ghost use Rattle.records.specs.Rules.{decide, outOfFrame, strayBits, ope
 ghost use Rattle.records.specs.Algorithm.Kept.{rulesOf};
 use crate::Outcome;
 use crate::fields::byte;
-use crate::fields::byte7;
 use crate::fields::cell;
 use crate::fields::code_in;
+use crate::fields::grade;
 use crate::fields::span;
 use crate::fields::start;
 use crate::fields::tag;
@@ -91,7 +91,7 @@ fn out_of_frame(n: usize, part: &[u8]) -> bool
 fn stray_bits(part: &[u8]) -> bool
     ensures { λ r. ⌜ r ≡ strayBits (now (part .entry)) ⌝ }
 {
-    if byte7(part) != 0 {
+    if grade(part) != 0 {
         return true;
     }
     any_stray(part)

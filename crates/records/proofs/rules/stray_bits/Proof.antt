@@ -7,11 +7,11 @@ use Rattle.records.proofs.rules.stray_bits.Tie as tie
 
 returns : tie.Need-returns
 unfolding strayBits _or_ isnt
-returns c = rw (← c .before .byte7 .ensures, ==-false _ _ (c .if1 .taken))
+returns c = rw (← c .before .grade .ensures, ==-false _ _ (c .if1 .taken))
 
 returns-2 : tie.Need-returns-2
 unfolding strayBits _or_ isnt
-returns-2 c = rw (← c .before .before .byte7 .ensures, ==-true _ _ (c .before .if1 .left)) (c .any-stray .ensures)
+returns-2 c = rw (← c .before .before .grade .ensures, ==-true _ _ (c .before .if1 .left)) (c .any-stray .ensures)
 
 pub stray-bits-spec : {M : Type 1} → statement M
 stray-bits-spec = tie.close (tie.spec (λ c κs. search needs) returns (λ c κs. search needs) returns-2)
