@@ -20,13 +20,13 @@ use Rattle.records.proofs.ExtentLaws.{Extent, extent-of, extent-one, ca
 
 -- ---- a record's bytes by its fields
 
-pub length-laidOut : (t f s : ℕ) (codes : ℕ → ℕ) → length (laidOut t f s codes) ≡ 32
+pub length-laidOut : (t f s g : ℕ) (codes : ℕ → ℕ) → length (laidOut t f s g codes) ≡ 32
 unfolding laidOut bytesOf
-length-laidOut t f s codes = let e = length-cellBytes codes in omega arith
+length-laidOut t f s g codes = let e = length-cellBytes codes in omega arith
 
-laid-cell : (t f s : ℕ) (codes : ℕ → ℕ) → ((i : ℕ) → i < 96 → codes i < 4) → (i : ℕ) → i < 96 → cellOf (laidOut t f s codes) i ≡ codes i
+laid-cell : (t f s g : ℕ) (codes : ℕ → ℕ) → ((i : ℕ) → i < 96 → codes i < 4) → (i : ℕ) → i < 96 → cellOf (laidOut t f s g codes) i ≡ codes i
 unfolding laidOut bytesOf
-laid-cell t f s codes small i h = code-written (bytesOf 4 t ++ bytesOf 2 f ++ s ∷ 0 ∷ []) codes refl small i h
+laid-cell t f s g codes small i h = code-written (bytesOf 4 t ++ bytesOf 2 f ++ s ∷ g ∷ []) codes refl small i h
 
 -- ---- record, row, record
 
@@ -50,9 +50,9 @@ module _ (n : ℕ) (r : List ℕ) (x : Sound n r) where
   unfolding outOfFrame
   sound-empty e = ==-eq _ _ (isnt-isnt _ (not-both _ _ (neither _ _ (x .frame) .1) (eq-== _ _ e)))
 
-  pub sound-grade : gradeOf r ≡ 0
+  pub sound-grade : gradeOf r ≤ 15
   unfolding strayBits
-  sound-grade = ==-eq _ _ (isnt-isnt _ (neither _ _ (x .bits) .0))
+  sound-grade = isnt-<? _ _ (neither _ _ (x .bits) .0)
 
   pub sound-after : (k : ℕ) → spanOf r ≤ k → k < 96 → cellOf r k ≡ 0
   unfolding strayBits
@@ -109,34 +109,34 @@ module _ (r : List ℕ) (whole : length r ≡ 32) (bytes : (i : ℕ) → i < 32 
       ap (λ (j : ℕ). bytesOf j (littleEndian (take k (drop a r)))) (sym l)
       ∙ bytes-again (take k (drop a r)) (λ i m. let g : i < k = omega arith in rw (getD-take k (drop a r) i 0 g, getD-drop a r i 0) (bytes (a + i) (omega arith)))
 
-  -- a sound record of 32 bytes, written again from its tag and its codes
-  pub record-again : (n : ℕ) → Sound n r → recordOf n (tagOf r) (codeAt r) ≡ r
+  -- a sound record of 32 bytes, written again from its tag, its grade and its codes
+  pub record-again : (n : ℕ) → Sound n r → recordOf n (tagOf r) (gradeOf r) (codeAt r) ≡ r
   unfolding recordOf laidOut tagOf startOf spanOf gradeOf
   record-again n x =
       let row = codeAt r in
       let one = extent-one (extent-of n row) (sound-extent n r x) in
-      ap₂ (λ (f s : ℕ). laidOut (tagOf r) f s (cut f s row)) (one .0) (one .1)
-      ∙ ap₂ (λ (a b : List ℕ). a ++ b ++ spanOf r ∷ 0 ∷ cellBytes (cut (startOf r) (spanOf r) row)) (field-again 4 0 (omega arith)) (field-again 2 4 (omega arith))
-      ∙ ap₂ (λ (z : ℕ) (c : List ℕ). take 4 r ++ take 2 (drop 4 r) ++ spanOf r ∷ z ∷ c) (sym (sound-grade n r x)) (cellBytes-again r (cut (startOf r) (spanOf r) row) whole bytes (cut-again n r x))
+      ap₂ (λ (f s : ℕ). laidOut (tagOf r) f s (gradeOf r) (cut f s row)) (one .0) (one .1)
+      ∙ ap₂ (λ (a b : List ℕ). a ++ b ++ spanOf r ∷ gradeOf r ∷ cellBytes (cut (startOf r) (spanOf r) row)) (field-again 4 0 (omega arith)) (field-again 2 4 (omega arith))
+      ∙ ap (λ (c : List ℕ). take 4 r ++ take 2 (drop 4 r) ++ spanOf r ∷ gradeOf r ∷ c) (cellBytes-again r (cut (startOf r) (spanOf r) row) whole bytes (cut-again n r x))
       ∙ parts
 
 -- ---- row, record, row
 
-pub length-recordOf : (n t : ℕ) (row : ℕ → ℕ) → length (recordOf n t row) ≡ 32
+pub length-recordOf : (n t g : ℕ) (row : ℕ → ℕ) → length (recordOf n t g row) ≡ 32
 unfolding recordOf
-length-recordOf n t row = length-laidOut t _ _ _
+length-recordOf n t g row = length-laidOut t _ _ g _
 
-pub tag-recordOf : (n t : ℕ) (row : ℕ → ℕ) → t < 4294967296 → tagOf (recordOf n t row) ≡ t
+pub tag-recordOf : (n t g : ℕ) (row : ℕ → ℕ) → t < 4294967296 → tagOf (recordOf n t g row) ≡ t
 unfolding recordOf laidOut tagOf bytesOf
-tag-recordOf n t row h = number-four t h
+tag-recordOf n t g row h = number-four t h
 
-pub span-recordOf : (n t : ℕ) (row : ℕ → ℕ) → spanOf (recordOf n t row) ≡ callsSpan n row
+pub span-recordOf : (n t g : ℕ) (row : ℕ → ℕ) → spanOf (recordOf n t g row) ≡ callsSpan n row
 unfolding recordOf laidOut spanOf bytesOf
-span-recordOf n t row = refl
+span-recordOf n t g row = refl
 
-pub grade-recordOf : (n t : ℕ) (row : ℕ → ℕ) → gradeOf (recordOf n t row) ≡ 0
+pub grade-recordOf : (n t g : ℕ) (row : ℕ → ℕ) → gradeOf (recordOf n t g row) ≡ g
 unfolding recordOf laidOut gradeOf bytesOf
-grade-recordOf n t row = refl
+grade-recordOf n t g row = refl
 
 pub cut-in : (f s : ℕ) (row : ℕ → ℕ) (i : ℕ) → i < s → cut f s row i ≡ row (f + i)
 unfolding cut
@@ -146,8 +146,8 @@ pub cut-out : (f s : ℕ) (row : ℕ → ℕ) (i : ℕ) → s ≤ i → cut f s 
 unfolding cut
 cut-out f s row i l = if-false (i <? s) _ _ (le-isnt i s l)
 
-module _ (n t : ℕ) (row : ℕ → ℕ) (wide : n ≤ 128) where
-  pub start-recordOf : startOf (recordOf n t row) ≡ callsStart n row
+module _ (n t g : ℕ) (row : ℕ → ℕ) (wide : n ≤ 128) where
+  pub start-recordOf : startOf (recordOf n t g row) ≡ callsStart n row
   unfolding recordOf laidOut startOf bytesOf
   start-recordOf = let w = extent-of n row .fits in number-two (callsStart n row) (omega arith)
 
@@ -160,16 +160,16 @@ module _ (n t : ℕ) (row : ℕ → ℕ) (wide : n ≤ 128) where
         (λ s. let l = <?-lt i (callsSpan n row) s in let h = small (callsStart n row + i) (omega arith) in omega arith)
         (λ s. omega arith)
 
-    pub cell-recordOf : (i : ℕ) → i < 96 → cellOf (recordOf n t row) i ≡ cut (callsStart n row) (callsSpan n row) row i
+    pub cell-recordOf : (i : ℕ) → i < 96 → cellOf (recordOf n t g row) i ≡ cut (callsStart n row) (callsSpan n row) row i
     unfolding recordOf
-    cell-recordOf i h = laid-cell t _ _ (cut (callsStart n row) (callsSpan n row) row) (λ i l. cut-small i) i h
+    cell-recordOf i h = laid-cell t _ _ g (cut (callsStart n row) (callsSpan n row) row) (λ i l. cut-small i) i h
 
     -- the code of a row's record at each column is the row's
-    pub row-again : callsSpan n row ≤ 96 → (c : ℕ) → c < n → codeAt (recordOf n t row) c ≡ row c
+    pub row-again : callsSpan n row ≤ 96 → (c : ℕ) → c < n → codeAt (recordOf n t g row) c ≡ row c
     row-again narrow c h =
-        let r = recordOf n t row in
+        let r = recordOf n t g row in
         let a = start-recordOf in
-        let b = span-recordOf n t row in
+        let b = span-recordOf n t g row in
         let x = extent-of n row in
         elim (decLe (callsStart n row) c) [
           | no l ↦ codeAt-out r c (λ q. omega arith) ∙ sym (hole-of (row c) (small c h) (x .before c (omega arith)))
@@ -207,10 +207,10 @@ module _ (n : ℕ) (row other : ℕ → ℕ) (same : (c : ℕ) → c < n → row
     | no l ↦ cut-in f s row i (omega arith) ∙ same (f + i) (omega arith) ∙ sym (cut-in f s other i (omega arith))
   ]
 
-  pub recordOf-same : (t : ℕ) → recordOf n t row ≡ recordOf n t other
+  pub recordOf-same : (t g : ℕ) → recordOf n t g row ≡ recordOf n t g other
   unfolding recordOf
-  recordOf-same t =
+  recordOf-same t g =
       let f = callsStart n row in
       let s = callsSpan n row in
-      ap (laidOut t f s) (fun-ext (cut-same f s (extent-of n row .fits)))
-      ∙ ap₂ (λ (f s : ℕ). laidOut t f s (cut f s other)) (calls-same .0) (calls-same .1)
+      ap (laidOut t f s g) (fun-ext (cut-same f s (extent-of n row .fits)))
+      ∙ ap₂ (λ (f s : ℕ). laidOut t f s g (cut f s other)) (calls-same .0) (calls-same .1)

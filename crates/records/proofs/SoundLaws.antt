@@ -1,4 +1,4 @@
--- The record of a writable row breaks none of rules 4 to 7; the row of such a record is writable, and gapped exactly if the record is.
+-- The record of a writable grade and row breaks none of rules 4 to 7; the row of such a record is writable, and gapped exactly if the record is.
 -- Assumes nothing.
 use mathlib.Core.Path.{_≡_, sym, ap, _∙_}
 use mathlib.Core.List.{List}
@@ -52,33 +52,33 @@ gap-same n row other same =
     ∙ any-ext (callsSpan n row) _ _ (λ k l. ap (λ (z : ℕ). z == 0) (same (callsStart n row + k) (omega arith)))
     ∙ sym (gap-within n other _ _ (extent-same n row other same _ _ x))
 
--- ---- the record of a writable row
+-- ---- the record of a writable grade and row
 
-module _ (n t : ℕ) (row : ℕ → ℕ) (wide : n ≤ 128) (small : (c : ℕ) → c < n → row c ≤ 2) (narrow : callsSpan n row ≤ 96) where
-  cell-row : (k : ℕ) → k < callsSpan n row → cellOf (recordOf n t row) k ≡ row (callsStart n row + k)
-  cell-row k l = cell-recordOf n t row wide small k (omega arith) ∙ cut-in _ _ row k l
+module _ (n t g : ℕ) (row : ℕ → ℕ) (graded : g ≤ 15) (wide : n ≤ 128) (small : (c : ℕ) → c < n → row c ≤ 2) (narrow : callsSpan n row ≤ 96) where
+  cell-row : (k : ℕ) → k < callsSpan n row → cellOf (recordOf n t g row) k ≡ row (callsStart n row + k)
+  cell-row k l = cell-recordOf n t g row wide small k (omega arith) ∙ cut-in _ _ row k l
 
-  pub recordOf-sound : Sound n (recordOf n t row)
+  pub recordOf-sound : Sound n (recordOf n t g row)
   unfolding outOfFrame strayBits unknownCall openEnd
   recordOf-sound =
       let x = extent-of n row in
       let w = x .fits in
-      let f = start-recordOf n t row wide in
-      let s = span-recordOf n t row in
+      let f = start-recordOf n t g row wide in
+      let s = span-recordOf n t g row in
       let hole : (c : ℕ) → 0 < row c → row c ≡ 0 → ⊥ = λ c h e. omega arith in
       record {
         frame = isnt-or _ _ (isnt-or _ _ (le-isnt _ _ (omega arith)) (le-isnt _ _ (omega arith)))
             (isnt-and _ _ (λ q. T-isnt-isnt _ (eq-== _ _ (f ∙ x .none (sym s ∙ ==-eq _ _ q)))));
-        bits = isnt-or _ _ (T-isnt-isnt _ (eq-== _ _ (grade-recordOf n t row)))
-            (none-of 96 _ (λ k l. isnt-and _ _ (λ q. let h = ≤?-le _ _ q in T-isnt-isnt _ (eq-== _ _ (cell-recordOf n t row wide small k l ∙ cut-out _ _ row k (omega arith))))));
-        codes = none-of (spanOf (recordOf n t row)) _ (λ k l.
+        bits = isnt-or _ _ (rw (grade-recordOf n t g row) (le-isnt _ _ graded))
+            (none-of 96 _ (λ k l. isnt-and _ _ (λ q. let h = ≤?-le _ _ q in T-isnt-isnt _ (eq-== _ _ (cell-recordOf n t g row wide small k l ∙ cut-out _ _ row k (omega arith))))));
+        codes = none-of (spanOf (recordOf n t g row)) _ (λ k l.
             ne-isnt _ _ (λ e. let c = cell-row k (omega arith) in let h = small (callsStart n row + k) (omega arith) in omega arith));
         ends = isnt-and _ _ (λ q.
             let h = <?-lt _ _ q in
             let a = cell-row 0 (omega arith) in
             let z : callsStart n row + 0 ≡ callsStart n row = omega arith in
             let u = call-range _ (x .first (omega arith)) in
-            let b = cell-row (spanOf (recordOf n t row) - 1) (omega arith) in
+            let b = cell-row (spanOf (recordOf n t g row) - 1) (omega arith) in
             let v = call-range _ (x .last (omega arith)) in
             isnt-or _ _ (ne-isnt _ _ (λ e. hole (callsStart n row) (u .0) (sym (ap row z) ∙ sym a ∙ e)))
             (ne-isnt _ _ (λ e. hole _ (v .0) (ap (λ (k : ℕ). row (callsStart n row + (k - 1))) (sym s) ∙ sym b ∙ e))));

@@ -10,7 +10,7 @@ use lib.Dec.{eqb}
 use lib.ListN.{replicate}
 use Rattle.below.specs.Below.{if_then_else_, _==_, _<?_, _≤?_, _and_, _or_, isnt, anyBelow, sumBelow, firstBelow, endBelow, maxBelow, tab, tabFrom, concat}
 use Rattle.records.specs.Record.{littleEndian, tagOf, startOf, spanOf, gradeOf, isCall, cellOf, codeAt}
-use Rattle.records.specs.Table.{fragments, recordAt, position, columnCount, unpackedCells, unpackedTags}
+use Rattle.records.specs.Table.{fragments, recordAt, position, columnCount, unpackedCells, unpackedTags, unpackedGrades}
 use Rattle.records.specs.Writing.{bytesOf, cellBytes, callsEnd, callsStart, callsSpan, cut, laidOut, recordOf, rowOf, packed}
 use Rattle.records.specs.Outcome.{Verdict, accepted, refused}
 use Rattle.records.specs.Rules.{decide, outOfFrame, strayBits, unknownCall, openEnd, gapIn, gapped, tagTwice, precedes, outOfOrder, earlierRules, spanRules, recordRules, gaplessRules, tableRules, gaplessTableRules, sizeRules, tableVerdict}
@@ -36,7 +36,7 @@ pub data Trial : Type 0 where
 passes : Trial → Bool
 unfolding cells frag made filled sameVerdict sameList
     _==_ _<?_ _≤?_ _and_ _or_ isnt anyBelow sumBelow firstBelow endBelow maxBelow tab tabFrom concat
-    littleEndian tagOf startOf spanOf gradeOf isCall cellOf codeAt fragments recordAt position columnCount unpackedCells unpackedTags
+    littleEndian tagOf startOf spanOf gradeOf isCall cellOf codeAt fragments recordAt position columnCount unpackedCells unpackedTags unpackedGrades
     bytesOf cellBytes callsEnd callsStart callsSpan cut laidOut recordOf rowOf packed
     decide outOfFrame strayBits unknownCall openEnd gapIn gapped tagTwice precedes outOfOrder earlierRules spanRules recordRules gaplessRules tableRules gaplessTableRules sizeRules tableVerdict
 passes (decides n table v) = sameVerdict (tableVerdict n table) v
@@ -133,8 +133,13 @@ aloneTrials =
     ∷ decides 3 (made 1 0 0 0 []) (accepted 1)
     ∷ decides 3 (made 1 1 0 0 []) (refused 4 0)
     ∷ decides 3 (filled (1 ∷ 0 ∷ 0 ∷ 0 ∷ 0 ∷ 1 ∷ 2 ∷ 0 ∷ 5 ∷ [])) (refused 4 0)
-    ∷ decides 3 (frag 1 0 2 1 "AA") (refused 5 0)
+    ∷ decides 3 (frag 1 0 2 15 "AA") (accepted 1)
+    ∷ decides 3 (frag 1 0 2 16 "AA") (refused 5 0)
+    ∷ decides 3 (frag 1 0 2 255 "AA") (refused 5 0)
+    ∷ decides 3 (made 1 0 0 15 []) (accepted 1)
+    ∷ decides 3 (made 1 0 0 16 []) (refused 5 0)
     ∷ decides 3 (frag 1 0 2 0 "AAA") (refused 5 0)
+    ∷ decides 3 (frag 1 0 2 15 "AAA") (refused 5 0)
     ∷ decides 3 (made 1 0 2 0 (0x05 ∷ replicate 22 0 ++ 0x40 ∷ [])) (refused 5 0)
     ∷ decides 3 (frag 1 0 3 0 "A#A") (refused 6 0)
     ∷ decides 3 (frag 1 0 3 0 "-AA") (refused 7 0)
@@ -154,16 +159,16 @@ orderTrials =
     ∷ decides 3 (replicate 4129 0) (refused 1 0)
     ∷ decides 1 (good ++ 0 ∷ []) (refused 1 0)
     -- in one record: 4 with 5, 6, 7, 8, 9
-    ∷ decides 3 (made 1 1 0 1 []) (refused 4 0)
+    ∷ decides 3 (made 1 1 0 16 []) (refused 4 0)
     ∷ decides 2 (frag 1 0 3 0 "A#A") (refused 4 0)
     ∷ decides 2 (frag 1 0 3 0 "-AA") (refused 4 0)
     ∷ both 2 (frag 1 0 3 0 "B-A") (refused 4 0) (refused 4 0)
     ∷ decides 2 (good ++ frag 1 1 2 0 "AA") (refused 4 1)
     -- 5 with 6, 7, 8, 9
-    ∷ decides 3 (frag 1 0 3 1 "A#A") (refused 5 0)
-    ∷ decides 3 (frag 1 0 3 1 "-AA") (refused 5 0)
-    ∷ both 3 (frag 1 0 3 1 "B-A") (refused 5 0) (refused 5 0)
-    ∷ decides 3 (good ++ frag 1 0 2 1 "AA") (refused 5 1)
+    ∷ decides 3 (frag 1 0 3 16 "A#A") (refused 5 0)
+    ∷ decides 3 (frag 1 0 3 255 "-AA") (refused 5 0)
+    ∷ both 3 (frag 1 0 3 16 "B-A") (refused 5 0) (refused 5 0)
+    ∷ decides 3 (good ++ frag 1 0 2 255 "AA") (refused 5 1)
     -- 6 with 7, 8, 9
     ∷ decides 3 (frag 1 0 3 0 "-#-") (refused 6 0)
     ∷ both 4 (frag 1 0 4 0 "A-#A") (refused 6 0) (refused 6 0)
@@ -174,7 +179,7 @@ orderTrials =
     ∷ both 3 (good ++ frag 1 0 3 0 "B-A") (refused 9 1) (refused 8 1)
     -- 4 to 8 with 13
     ∷ decides 2 (frag 2 0 2 0 "AA" ++ frag 1 0 3 0 "AAA") (refused 4 1)
-    ∷ decides 3 (frag 2 0 2 0 "AA" ++ frag 1 0 2 1 "AA") (refused 5 1)
+    ∷ decides 3 (frag 2 0 2 0 "AA" ++ frag 1 0 2 16 "AA") (refused 5 1)
     ∷ decides 3 (frag 2 0 2 0 "AA" ++ frag 1 0 3 0 "A#A") (refused 6 1)
     ∷ decides 3 (frag 2 0 2 0 "AA" ++ frag 1 0 3 0 "-AA") (refused 7 1)
     ∷ both 3 (frag 2 0 2 0 "AA" ++ frag 1 0 3 0 "B-A") (refused 13 1) (refused 8 1)
@@ -184,14 +189,21 @@ orderTrials =
     ∷ both 3 (good ++ good ++ frag 2 0 3 0 "B-A") (refused 9 1) (refused 9 1)
     ∷ []
 
--- cells and tags out and in again, the columns needed, and a tag's first position
+-- the printed table with grades 15, 0 and 9
+graded : List ℕ
+graded = frag 10 0 2 15 "AA" ++ frag 11 0 3 0 "BAA" ++ frag 12 1 2 9 "BB"
+
+-- cells, tags and grades out and in again, the columns needed, and a tag's first position
 pub cellTrials : List Trial
-unfolding printed good
+unfolding printed graded good
 cellTrials =
     lists (unpackedCells 3 printed) (cells "AA-, BAA, -BB")
     ∷ lists (unpackedTags printed) (10 ∷ 11 ∷ 12 ∷ [])
-    ∷ lists (packed 3 (cells "AA-, BAA, -BB") (10 ∷ 11 ∷ 12 ∷ [])) printed
-    ∷ lists (packed 3 (cells "---") (7 ∷ [])) (made 7 0 0 0 [])
+    ∷ lists (unpackedGrades printed) (0 ∷ 0 ∷ 0 ∷ [])
+    ∷ lists (unpackedGrades graded) (15 ∷ 0 ∷ 9 ∷ [])
+    ∷ lists (packed 3 (cells "AA-, BAA, -BB") (10 ∷ 11 ∷ 12 ∷ []) (0 ∷ 0 ∷ 0 ∷ [])) printed
+    ∷ lists (packed 3 (cells "AA-, BAA, -BB") (10 ∷ 11 ∷ 12 ∷ []) (15 ∷ 0 ∷ 9 ∷ [])) graded
+    ∷ lists (packed 3 (cells "---") (7 ∷ []) (3 ∷ [])) (made 7 0 0 3 [])
     ∷ lists (columnCount printed ∷ position 11 printed ∷ position 13 printed ∷ position 1 (good ++ good) ∷ []) (3 ∷ 1 ∷ 3 ∷ 0 ∷ [])
     ∷ []
 

@@ -27,9 +27,9 @@ decide (r ∷ rs) v = if r .broken then refused (r .number) (r .place) else deci
 unfoldable pub outOfFrame : ℕ → List ℕ → Bool
 outOfFrame n r = 96 <? spanOf r or n <? startOf r + spanOf r or spanOf r == 0 and isnt (startOf r == 0)
 
--- 5, "stray bits": byte 7 not 0, or any cell after the span not 0
+-- 5, "stray bits": byte 7 over 15, or any cell after the span not 0
 unfoldable pub strayBits : List ℕ → Bool
-strayBits r = isnt (gradeOf r == 0) or anyBelow 96 (λ k. spanOf r ≤? k and isnt (cellOf r k == 0))
+strayBits r = 15 <? gradeOf r or anyBelow 96 (λ k. spanOf r ≤? k and isnt (cellOf r k == 0))
 
 -- 6, "unknown call": a code 3 in the span
 unfoldable pub unknownCall : List ℕ → Bool

@@ -6,7 +6,7 @@ use Prim.Native.Nat.{ℕ, _+_, _*_, _/_}
 use lib.ListN.{length, take, drop}
 use denote.Ref.{RefT, ptr, now}
 use Rattle.below.specs.Below.{if_then_else_, _==_, _<?_, firstBelow, maxBelow, tab, concat}
-use Rattle.records.specs.Record.{tagOf, startOf, spanOf, codeAt}
+use Rattle.records.specs.Record.{tagOf, startOf, spanOf, gradeOf, codeAt}
 
 -- m, "fragments": how many whole records the bytes hold
 unfoldable pub fragments : List ℕ → ℕ
@@ -50,3 +50,7 @@ unpackedCells n table = concat (tab (fragments table) (λ i. tab n (codeAt (reco
 -- unpack's "m tags"
 unfoldable pub unpackedTags : List ℕ → List ℕ
 unpackedTags table = tab (fragments table) (λ i. tagOf (recordAt table i))
+
+-- unpack's m grades
+unfoldable pub unpackedGrades : List ℕ → List ℕ
+unpackedGrades table = tab (fragments table) (λ i. gradeOf (recordAt table i))

@@ -38,30 +38,30 @@ unfoldable pub cut : ℕ → ℕ → (ℕ → ℕ) → ℕ → ℕ
 cut f s row i = if i <? s then row (f + i) else 0
 
 -- a record's 32 bytes by its fields and the codes of its cells
-unfoldable pub laidOut : ℕ → ℕ → ℕ → (ℕ → ℕ) → List ℕ
-laidOut t f s codes = bytesOf 4 t ++ bytesOf 2 f ++ s ∷ 0 ∷ cellBytes codes
+unfoldable pub laidOut : ℕ → ℕ → ℕ → ℕ → (ℕ → ℕ) → List ℕ
+laidOut t f s g codes = bytesOf 4 t ++ bytesOf 2 f ++ s ∷ g ∷ cellBytes codes
 
--- the record of a fragment, from its tag and its code at each of n columns
-unfoldable pub recordOf : ℕ → ℕ → (ℕ → ℕ) → List ℕ
-recordOf n t row = laidOut t (callsStart n row) (callsSpan n row) (cut (callsStart n row) (callsSpan n row) row)
+-- the record of a fragment, from its tag, its grade and its code at each of n columns
+unfoldable pub recordOf : ℕ → ℕ → ℕ → (ℕ → ℕ) → List ℕ
+recordOf n t g row = laidOut t (callsStart n row) (callsSpan n row) g (cut (callsStart n row) (callsSpan n row) row)
 
 -- the codes of a row of cells, a hole past its end
 abbrev pub codesOf : List ℕ → ℕ → ℕ
 codesOf row c = getD row c 0
 
--- a row is writable: at most 128 columns, no code over 2, calls that reach over at most 96 columns
-unfoldable pub writable : ℕ → (ℕ → ℕ) → Bool
-writable n row = n ≤? 128 and isnt (anyBelow n (λ c. 2 <? row c)) and callsSpan n row ≤? 96
+-- a grade and a row are writable: a grade of at most 15; at most 128 columns, no code over 2, calls that reach over at most 96 columns
+unfoldable pub writable : ℕ → ℕ → (ℕ → ℕ) → Bool
+writable n g row = g ≤? 15 and n ≤? 128 and isnt (anyBelow n (λ c. 2 <? row c)) and callsSpan n row ≤? 96
 
 -- what writing a row's record into its own 32 bytes did: `done` where it was written, else the bytes are the old ones
-pub record RecordWritten (tag : ℕ) (row old new : List ℕ) (done : Bool) : Type 0 where
-  pub answer : done ≡ (length old == 32 and writable (length row) (codesOf row))
-  pub bytes : new ≡ if done then recordOf (length row) tag (codesOf row) else old
+pub record RecordWritten (tag grade : ℕ) (row old new : List ℕ) (done : Bool) : Type 0 where
+  pub answer : done ≡ (length old == 32 and writable (length row) grade (codesOf row))
+  pub bytes : new ≡ if done then recordOf (length row) tag grade (codesOf row) else old
 
 -- the row of a fragment among m × n cells
 unfoldable pub rowOf : ℕ → List ℕ → ℕ → ℕ → ℕ
 rowOf n cells i c = getD cells (i * n + c) 0
 
--- pack's table, from m × n cells and m tags
-unfoldable pub packed : ℕ → List ℕ → List ℕ → List ℕ
-packed n cells tags = concat (tab (length tags) (λ i. recordOf n (getD tags i 0) (rowOf n cells i)))
+-- pack's table, from m × n cells, m tags and m grades
+unfoldable pub packed : ℕ → List ℕ → List ℕ → List ℕ → List ℕ
+packed n cells tags grades = concat (tab (length tags) (λ i. recordOf n (getD tags i 0) (getD grades i 0) (rowOf n cells i)))

@@ -87,11 +87,11 @@ fn out_of_frame(n: usize, part: &[u8]) -> bool
     false
 }
 
-// 5: byte 7 not 0, or any cell after the span not 0.
+// 5: byte 7 over 15, or any cell after the span not 0.
 fn stray_bits(part: &[u8]) -> bool
     ensures { λ r. ⌜ r ≡ strayBits (now (part .entry)) ⌝ }
 {
-    if grade(part) != 0 {
+    if 15 < grade(part) {
         return true;
     }
     any_stray(part)
