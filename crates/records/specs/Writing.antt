@@ -49,9 +49,13 @@ recordOf n t g row = laidOut t (callsStart n row) (callsSpan n row) g (cut (call
 abbrev pub codesOf : List ℕ → ℕ → ℕ
 codesOf row c = getD row c 0
 
--- a grade and a row are writable: a grade of at most 15; at most 128 columns, no code over 2, calls that reach over at most 96 columns
+-- a row is writable: at most 128 columns, no code over 2, calls that reach over at most 96 columns
+unfoldable pub writableRow : ℕ → (ℕ → ℕ) → Bool
+writableRow n row = n ≤? 128 and isnt (anyBelow n (λ c. 2 <? row c)) and callsSpan n row ≤? 96
+
+-- a grade and a row are: "0 to 15", and such a row
 unfoldable pub writable : ℕ → ℕ → (ℕ → ℕ) → Bool
-writable n g row = g ≤? 15 and n ≤? 128 and isnt (anyBelow n (λ c. 2 <? row c)) and callsSpan n row ≤? 96
+writable n g row = g ≤? 15 and writableRow n row
 
 -- what writing a row's record into its own 32 bytes did: `done` where it was written, else the bytes are the old ones
 pub record RecordWritten (tag grade : ℕ) (row old new : List ℕ) (done : Bool) : Type 0 where

@@ -5,7 +5,7 @@ ghost use Prim.Native.Nat.{_+_, _*_, _^_, _<_, _≤_};
 ghost use lib.Dec.{T};
 ghost use lib.ListN.{length, getD};
 ghost use Rattle.below.specs.Below.{sumBelow};
-ghost use Rattle.records.specs.Writing.{bytesOf, codesOf, cut, laidOut, writable, RecordWritten};
+ghost use Rattle.records.specs.Writing.{bytesOf, codesOf, cut, laidOut, writableRow, RecordWritten};
 use crate::rows::any_unknown;
 use crate::rows::calls_span;
 use crate::rows::calls_start;
@@ -13,7 +13,7 @@ use records::byte;
 
 // Whether a row has a record.
 fn is_writable(row: &[u8]) -> bool
-    ensures { λ r. ⌜ r ≡ writable (length (now (row .entry))) (codesOf (now (row .entry))) ⌝ }
+    ensures { λ r. ⌜ r ≡ writableRow (length (now (row .entry))) (codesOf (now (row .entry))) ⌝ }
 {
     if 128 < row.len() {
         return false;
@@ -26,7 +26,7 @@ fn is_writable(row: &[u8]) -> bool
 
 // The code of cell i of a writable row's record.
 fn cut_code(row: &[u8], start: usize, span: usize, i: usize) -> u8
-    requires { ⌜ T (writable (length (now row)) (codesOf (now row))) ⌝ }
+    requires { ⌜ T (writableRow (length (now row)) (codesOf (now row))) ⌝ }
     requires { ⌜ (start ≤ 128) × (i < 96) ⌝ }
     ensures { λ r. ⌜ (r ≡ cut start span (codesOf (now (row .entry))) i) × (r ≤ 2) ⌝ }
 {
@@ -38,7 +38,7 @@ fn cut_code(row: &[u8], start: usize, span: usize, i: usize) -> u8
 
 // Byte b of the cells.
 fn cell_byte(row: &[u8], start: usize, span: usize, b: usize) -> u8
-    requires { ⌜ T (writable (length (now row)) (codesOf (now row))) ⌝ }
+    requires { ⌜ T (writableRow (length (now row)) (codesOf (now row))) ⌝ }
     requires { ⌜ (start ≤ 128) × (b < 24) ⌝ }
     ensures { λ r. ⌜ r ≡ sumBelow 4 (λ q. 4 ^ q * cut start span (codesOf (now (row .entry))) (4 * b + q)) ⌝ }
 {
@@ -62,52 +62,55 @@ fn tag_byte(tag: u32, k: usize) -> u8
     }
 }
 
-// Byte k of start, span and the 0 after them.
-fn frame_byte(start: usize, span: usize, k: usize) -> u8
+// Byte k of start, span and grade.
+fn frame_byte(start: usize, span: usize, grade: u8, k: usize) -> u8
     requires { ⌜ (span ≤ 96) × (k < 4) ⌝ }
-    ensures { λ r. ⌜ r ≡ getD (bytesOf 2 start ++ span ∷ 0 ∷ []) k 0 ⌝ }
+    ensures { λ r. ⌜ r ≡ getD (bytesOf 2 start ++ span ∷ grade ∷ []) k 0 ⌝ }
 {
     match k {
         0 => (start % 256) as u8,
         1 => (start / 256 % 256) as u8,
         2 => span as u8,
-        _ => 0,
+        _ => grade,
     }
 }
 
 // Byte k of the record.
-fn record_byte(tag: u32, row: &[u8], start: usize, span: usize, k: usize) -> u8
-    requires { ⌜ T (writable (length (now row)) (codesOf (now row))) ⌝ }
+fn record_byte(tag: u32, grade: u8, row: &[u8], start: usize, span: usize, k: usize) -> u8
+    requires { ⌜ T (writableRow (length (now row)) (codesOf (now row))) ⌝ }
     requires { ⌜ (start ≤ 128) × (span ≤ 96) × (k < 32) ⌝ }
-    ensures { λ r. ⌜ r ≡ getD (laidOut tag start span (cut start span (codesOf (now (row .entry))))) k 0 ⌝ }
+    ensures { λ r. ⌜ r ≡ getD (laidOut tag start span grade (cut start span (codesOf (now (row .entry))))) k 0 ⌝ }
 {
     if k < 4 {
         return tag_byte(tag, k);
     }
     if k < 8 {
-        return frame_byte(start, span, k - 4);
+        return frame_byte(start, span, grade, k - 4);
     }
     cell_byte(row, start, span, k - 8)
 }
 
 // Writes the record of a writable row whose calls start at a column and reach over a number of them.
-fn fill_record(tag: u32, row: &[u8], start: usize, span: usize, record: &mut [u8])
-    requires { ⌜ T (writable (length (now row)) (codesOf (now row))) ⌝ }
+fn fill_record(tag: u32, grade: u8, row: &[u8], start: usize, span: usize, record: &mut [u8])
+    requires { ⌜ T (writableRow (length (now row)) (codesOf (now row))) ⌝ }
     requires { ⌜ (start ≤ 128) × (span ≤ 96) × (length (now «record») ≡ 32) ⌝ }
-    ensures { λ _. ⌜ now («record» .exit) ≡ laidOut tag start span (cut start span (codesOf (now (row .entry)))) ⌝ }
+    ensures { λ _. ⌜ now («record» .exit) ≡ laidOut tag start span grade (cut start span (codesOf (now (row .entry)))) ⌝ }
 {
     let mut k = 0;
     while k < record.len() {
-        record[k] = record_byte(tag, row, start, span, k);
+        record[k] = record_byte(tag, grade, row, start, span, k);
         k += 1;
     }
 }
 
-// Writes the record of a row into its own 32 bytes; no, and nothing written, where the row has no record or the bytes are not 32.
-pub fn write_record(tag: u32, row: &[u8], record: &mut [u8]) -> bool
-    ensures { λ r. ⌜ RecordWritten tag (now (row .entry)) (now («record» .entry)) (now («record» .exit)) r ⌝ }
+// Writes the record of a row into its own 32 bytes; no, and nothing written, where the grade is over 15, the row has no record or the bytes are not 32.
+pub fn write_record(tag: u32, grade: u8, row: &[u8], record: &mut [u8]) -> bool
+    ensures { λ r. ⌜ RecordWritten tag grade (now (row .entry)) (now («record» .entry)) (now («record» .exit)) r ⌝ }
 {
     if record.len() != 32 {
+        return false;
+    }
+    if 15 < grade {
         return false;
     }
     if !is_writable(row) {
@@ -115,6 +118,6 @@ pub fn write_record(tag: u32, row: &[u8], record: &mut [u8]) -> bool
     }
     let start = calls_start(row);
     let span = calls_span(row);
-    fill_record(tag, row, start, span, record);
+    fill_record(tag, grade, row, start, span, record);
     true
 }

@@ -11,11 +11,11 @@ use Rattle.writing.proofs.layout.fill_record.Statement.{statement}
 use Rattle.writing.proofs.layout.fill_record.Tie as tie
 
 abbrev Inv-loop : tie.InvT-loop
-Inv-loop tag row start span record₀ k₀ «record» k =
-    (k ≤ length «record») × (length «record» ≡ length record₀) × ((j : ℕ) → j < k → getD «record» j 0 ≡ getD (laidOut tag start span (cut start span (codesOf row))) j 0)
+Inv-loop tag grade row start span record₀ k₀ «record» k =
+    (k ≤ length «record») × (length «record» ≡ length record₀) × ((j : ℕ) → j < k → getD «record» j 0 ≡ getD (laidOut tag start span grade (cut start span (codesOf row))) j 0)
 
 abbrev μ-loop : tie.MeasureT-loop
-μ-loop tag row start span record₀ k₀ «record» k = length record₀ - k
+μ-loop tag grade row start span record₀ k₀ «record» k = length record₀ - k
 
 loop-holds : tie.Need-loop-holds Inv-loop μ-loop
 loop-holds c = (omega arith, refl, λ j h. absurd (omega arith))
@@ -34,7 +34,7 @@ loop-again c =
     let start-step = c .before .before .before .before .before in
     let l = c .before .before .loop in
     let a = start-step .args in
-    let f : ℕ → ℕ = λ j. getD (laidOut (a .tag) (a .start) (a .span) (cut (a .start) (a .span) (codesOf (a .row .now)))) j 0 in
+    let f : ℕ → ℕ = λ j. getD (laidOut (a .tag) (a .start) (a .span) (a .grade) (cut (a .start) (a .span) (codesOf (a .row .now)))) j 0 in
     (simp length-set (omega arith), simp length-set (l .inv .1), fill-next f (l .«record») (l .k) (c .record-byte .result) (omega arith) (l .inv .2) (c .record-byte .ensures))
 
 same-length : tie.Need-same-length Inv-loop μ-loop
@@ -47,7 +47,7 @@ returns c =
     let a = s .args in
     let e = l .inv .1 in
     let h = s .pre .1 .2 in
-    filled (a .tag) (a .start) (a .span) (cut (a .start) (a .span) (codesOf (a .row .now))) (l .«record») (omega arith) (λ j k. l .inv .2 j (omega arith))
+    filled (a .tag) (a .start) (a .span) (a .grade) (cut (a .start) (a .span) (codesOf (a .row .now))) (l .«record») (omega arith) (λ j k. l .inv .2 j (omega arith))
 
 pub fill-record-spec : {M : Type 1} → statement M
 fill-record-spec =
