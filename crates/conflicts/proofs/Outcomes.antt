@@ -9,7 +9,7 @@ use native.Mathlib.Omega.{arith}
 use lib.Dec.{T}
 use lib.ListN.{length, replicate}
 use Rattle.below.specs.Below.{if_then_else_, isnt}
-use Rattle.records.specs.Table.{unpackedCells, unpackedTags}
+use Rattle.records.specs.Table.{unpackedCells, unpackedTags, unpackedGrades}
 use Rattle.records.specs.Writing.{packed}
 use Rattle.records.specs.Outcome.{Verdict, accepted, refused}
 use Rattle.records.specs.Rules.{Rule, decide}
@@ -111,14 +111,14 @@ module _ {v : Verdict} {number place : ℕ} (e : v ≡ refused number place) whe
   unworked work = ap (λ (v : Verdict). workAfter v work) e
 
 module _ (n : ℕ) (number place : ℕ) where
-  pub unpack-refused : (table cells tags : List ℕ) → unpackLeaves n table cells tags .outcome ≡ refused number place
-      → (unpackLeaves n table cells tags .cells ≡ cells) × (unpackLeaves n table cells tags .tags ≡ tags)
+  pub unpack-refused : (table cells tags grades : List ℕ) → unpackLeaves n table cells tags grades .outcome ≡ refused number place
+      → (unpackLeaves n table cells tags grades .cells ≡ cells) × (unpackLeaves n table cells tags grades .tags ≡ tags) × (unpackLeaves n table cells tags grades .grades ≡ grades)
   unfolding unpackLeaves
-  unpack-refused table cells tags e = (unwritten e (unpackedCells n table) cells, unwritten e (unpackedTags table) tags)
+  unpack-refused table cells tags grades e = (unwritten e (unpackedCells n table) cells, unwritten e (unpackedTags table) tags, unwritten e (unpackedGrades table) grades)
 
-  pub pack-refused : (cells tags table : List ℕ) → packLeaves n cells tags table .outcome ≡ refused number place → packLeaves n cells tags table .table ≡ table
+  pub pack-refused : (cells tags grades table : List ℕ) → packLeaves n cells tags grades table .outcome ≡ refused number place → packLeaves n cells tags grades table .table ≡ table
   unfolding packLeaves
-  pack-refused cells tags table e = unwritten e (packed n cells tags) table
+  pack-refused cells tags grades table e = unwritten e (packed n cells tags grades) table
 
   pub check-refused : (table answer : List ℕ) → checkLeaves n table answer .outcome ≡ refused number place → checkLeaves n table answer .answer ≡ answer
   unfolding checkLeaves

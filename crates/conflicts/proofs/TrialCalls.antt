@@ -8,7 +8,7 @@ use lib.Dec.{eqb}
 use lib.ListN.{length, replicate}
 use Rattle.below.specs.Below.{bit, if_then_else_, _==_, _<?_, _≤?_, _and_, _or_, isnt, allBelow, anyBelow, sumBelow, countBelow, firstBelow, endBelow, tab, tabFrom, concat}
 use Rattle.records.specs.Record.{littleEndian, tagOf, startOf, spanOf, gradeOf, isCall, cellOf, codeAt}
-use Rattle.records.specs.Table.{fragments, recordAt, partStart, partLength, position, unpackedCells, unpackedTags}
+use Rattle.records.specs.Table.{fragments, recordAt, partStart, partLength, position, unpackedCells, unpackedTags, unpackedGrades}
 use Rattle.records.specs.Writing.{bytesOf, cellBytes, callsEnd, callsStart, callsSpan, withoutCalls, cut, laidOut, recordOf, rowOf, packed}
 use Rattle.records.specs.Outcome.{Verdict, accepted}
 use Rattle.records.specs.Rules.{decide, outOfFrame, strayBits, unknownCall, openEnd, gapIn, gapped, tagTwice, precedes, outOfOrder, earlierRules, spanRules, recordRules, gaplessRules, tableRules, gaplessTableRules, sizeRules}
@@ -24,14 +24,14 @@ use Rattle.conflicts.specs.Answer.{answerSize, answer, checkAnswer, snpA
 use Rattle.conflicts.specs.Services.{workRules, lengthRule, depthRules, packSizeRules, fragmentRules, unpackRules, packRules, checkRules, conflictCountsRules, lentStages, removalRules, correctionStages, correctionRules, unpackLeaves, packLeaves, findLeaves, checkLeaves, conflictCountsLeaves, snpRemovalLeaves, fragmentRemovalLeaves, correctionsLeaves}
 use Rattle.conflicts.specs.Host.{hostRead}
 use Rattle.records.proofs.TrialTools.{sameVerdict, sameList}
-use Rattle.records.proofs.TrialText.{countIn, answerIn, marks, cells, frag, tableFrom}
+use Rattle.records.proofs.TrialText.{countIn, answerIn, marks, cells, frag, tableFrom, withGrades}
 
 -- ---- calls
 
 -- a call: what it is given, and then the buffers that it is lent
 pub data Call : Type 0 where
-  unpack : ℕ → List ℕ → List ℕ → List ℕ → Call
-  pack : ℕ → List ℕ → List ℕ → List ℕ → Call
+  unpack : ℕ → List ℕ → List ℕ → List ℕ → List ℕ → Call
+  pack : ℕ → List ℕ → List ℕ → List ℕ → List ℕ → Call
   check : ℕ → List ℕ → List ℕ → Call
   counts : ℕ → List ℕ → List ℕ → Call
   S : ℕ → List ℕ → List ℕ → List ℕ → Call
@@ -40,8 +40,8 @@ pub data Call : Type 0 where
 
 -- what a call leaves: its outcome and its buffers but the work buffer
 unfoldable pub leaves : Call → Verdict × List (List ℕ)
-leaves (unpack n table cells tags) = let r = unpackLeaves n table cells tags in (r .outcome, r .cells ∷ r .tags ∷ [])
-leaves (pack n cells tags table) = let r = packLeaves n cells tags table in (r .outcome, r .table ∷ [])
+leaves (unpack n table cells tags grades) = let r = unpackLeaves n table cells tags grades in (r .outcome, r .cells ∷ r .tags ∷ r .grades ∷ [])
+leaves (pack n cells tags grades table) = let r = packLeaves n cells tags grades table in (r .outcome, r .table ∷ [])
 leaves (check n table answer) = let r = checkLeaves n table answer in (r .outcome, r .answer ∷ [])
 leaves (counts n table bytes) = let r = conflictCountsLeaves n table bytes in (r .outcome, r .counts ∷ [])
 leaves (S n table answer work) = let r = snpRemovalLeaves n table answer work in (r .outcome, r .answer ∷ [])
@@ -50,8 +50,8 @@ leaves (C n table answer output work) = let r = correctionsLeaves n table answer
 
 -- its work buffer; none is lent to unpack, pack, check and conflict_counts
 workLeft : Call → List ℕ
-workLeft (unpack n table cells tags) = []
-workLeft (pack n cells tags table) = []
+workLeft (unpack n table cells tags grades) = []
+workLeft (pack n cells tags grades table) = []
 workLeft (check n table answer) = []
 workLeft (counts n table bytes) = []
 workLeft (S n table answer work) = snpRemovalLeaves n table answer work .work
@@ -60,8 +60,8 @@ workLeft (C n table answer output work) = correctionsLeaves n table answer outpu
 
 -- its buffers before, but the work buffer
 lent : Call → List (List ℕ)
-lent (unpack n table cells tags) = cells ∷ tags ∷ []
-lent (pack n cells tags table) = table ∷ []
+lent (unpack n table cells tags grades) = cells ∷ tags ∷ grades ∷ []
+lent (pack n cells tags grades table) = table ∷ []
 lent (check n table answer) = answer ∷ []
 lent (counts n table bytes) = bytes ∷ []
 lent (S n table answer work) = answer ∷ []
@@ -84,7 +84,11 @@ answer9 n table = nines (answerSize (fragments table) n)
 
 -- unpack with such buffers
 unfoldable pub unpackOn : ℕ → List ℕ → Call
-unpackOn n table = unpack n table (nines (fragments table * n)) (nines (fragments table))
+unpackOn n table = unpack n table (nines (fragments table * n)) (nines (fragments table)) (nines (fragments table))
+
+-- pack with such a buffer, and every grade 0
+unfoldable pub packOn : ℕ → List ℕ → List ℕ → Call
+packOn n cells tags = pack n cells tags (replicate (length tags) 0) (nines (32 * length tags))
 
 -- check with such a buffer
 unfoldable pub checkOn : ℕ → List ℕ → Call
@@ -117,6 +121,10 @@ pub data Trial : Type 0 where
   finds : ℕ → List ℕ → ℕ → ℕ → Trial
   equals : ℕ → ℕ → Trial
   reads : ℕ → ℕ → Verdict → Trial
+
+-- unpack gives these cells and tags, and every grade 0
+unfoldable pub unpacks : Call → ℕ → List ℕ → List ℕ → Trial
+unpacks call count cells tags = accepts call count (cells ∷ tags ∷ replicate (length tags) 0 ∷ [])
 
 -- check, S or F answers as the listing prints it after the letter: count, keep marks, haplotype 1, haplotype 2, sides, blocks
 unfoldable pub answers : Call → String → Trial
@@ -158,9 +166,9 @@ left call outcome buffers = let r = leaves call in sameVerdict (r .0) outcome &&
 
 -- a trial passes; to unfold this unfolds all that a trial computes with
 passes : Trial → Bool
-unfolding marks cells frag tableFrom leaves workLeft lent nines work9 answer9 unpackOn checkOn countsOn SOn FOn COn answers corrects allKeep freeOn countOn coverageOn ruledOn costOf left sameVerdict sameList hostRead
+unfolding marks cells frag tableFrom withGrades leaves workLeft lent nines work9 answer9 unpackOn packOn checkOn countsOn SOn FOn COn unpacks answers corrects allKeep freeOn countOn coverageOn ruledOn costOf left sameVerdict sameList hostRead
     _==_ _<?_ _≤?_ _and_ _or_ isnt allBelow anyBelow sumBelow countBelow firstBelow endBelow tab tabFrom concat
-    littleEndian tagOf startOf spanOf gradeOf isCall cellOf codeAt fragments recordAt partStart partLength position unpackedCells unpackedTags
+    littleEndian tagOf startOf spanOf gradeOf isCall cellOf codeAt fragments recordAt partStart partLength position unpackedCells unpackedTags unpackedGrades
     bytesOf cellBytes callsEnd callsStart callsSpan withoutCalls cut laidOut recordOf rowOf packed
     decide outOfFrame strayBits unknownCall openEnd gapIn gapped tagTwice precedes outOfOrder earlierRules spanRules recordRules gaplessRules tableRules gaplessTableRules sizeRules
     choices passing some first leastOf firstLeast marked zeros keepAll keepLists gridOf withCells callsConflict conflictOn conflictOnKept stretchCovers coverage conflictCount conflictCounts

@@ -8,8 +8,8 @@ use lib.ListN.{replicate}
 use Rattle.records.specs.Outcome.{accepted, refused}
 use Rattle.records.proofs.TrialTools.{filled}
 use Rattle.conflicts.specs.Host.{hostCode, hostOutcome}
-use Rattle.records.proofs.TrialText.{marks, cells, frag, tableFrom}
-use Rattle.conflicts.proofs.TrialCalls.{unpack, pack, check, counts, S, F, C, leaves, nines, work9, unpackOn, checkOn, countsOn, SOn, FOn, COn, Trial, accepts, keeps, works, finds, equals, reads, answers, corrects, allKeep, freeOn, countOn, coverageOn, ruledOn, costOf, failing}
+use Rattle.records.proofs.TrialText.{marks, cells, frag, tableFrom, withGrades}
+use Rattle.conflicts.proofs.TrialCalls.{unpack, pack, check, counts, S, F, C, leaves, nines, work9, unpackOn, packOn, checkOn, countsOn, SOn, FOn, COn, Trial, accepts, keeps, works, finds, equals, reads, unpacks, answers, corrects, allKeep, freeOn, countOn, coverageOn, ruledOn, costOf, failing}
 
 -- ---- the tables of paper 01's trials
 
@@ -86,8 +86,8 @@ pTrials =
     ∷ answers (FOn 2 four) "2 11 AA AB 1200 0,0,-,-"
     ∷ corrects (COn 2 four) "2 11 AA BB 1112 0,0,0,0" (tableFrom 1 "AA, AA, AA, BB")
     -- P "AB-, -AB, B-A: refusal 8", from S and F; T-01: "a no from check and an answer from C"; T-02: "tried as AB-, B-A, -AB, with 8 at 1"
-    ∷ accepts (unpackOn 3 holed) 3 (cells "AB-, B-A, -AB" ∷ (1 ∷ 2 ∷ 3 ∷ []) ∷ [])
-    ∷ accepts (pack 3 (cells "AB-, B-A, -AB") (1 ∷ 2 ∷ 3 ∷ []) (nines 96)) 3 (holed ∷ [])
+    ∷ unpacks (unpackOn 3 holed) 3 (cells "AB-, B-A, -AB") (1 ∷ 2 ∷ 3 ∷ [])
+    ∷ accepts (packOn 3 (cells "AB-, B-A, -AB") (1 ∷ 2 ∷ 3 ∷ [])) 3 (holed ∷ [])
     ∷ keeps (checkOn 3 holed) (accepted 1)
     ∷ accepts (countsOn 3 holed) 3 ((0 ∷ 1 ∷ 1 ∷ 1 ∷ 0 ∷ 1 ∷ 1 ∷ 1 ∷ 0 ∷ []) ∷ [])
     ∷ keeps (SOn 3 holed) (refused 8 1)
@@ -95,7 +95,7 @@ pTrials =
     ∷ corrects (COn 3 holed) "1 111 ABA -AB 112 0,0,0" (tableFrom 1 "AB-, A-A, -AB")
     -- … and in the old order 13 at 2, but 8 at 2, which comes first, from S and F
     ∷ keeps (unpackOn 3 fallen) (refused 13 2)
-    ∷ keeps (pack 3 (cells "AB-, -AB, B-A") (1 ∷ 2 ∷ 3 ∷ []) (nines 96)) (refused 13 2)
+    ∷ keeps (packOn 3 (cells "AB-, -AB, B-A") (1 ∷ 2 ∷ 3 ∷ [])) (refused 13 2)
     ∷ keeps (checkOn 3 fallen) (refused 13 2)
     ∷ keeps (countsOn 3 fallen) (refused 13 2)
     ∷ keeps (SOn 3 fallen) (refused 8 2)
@@ -277,8 +277,8 @@ mateTrials =
     ∷ answers (checkOn 3 between) "0 111 A-A B-B 12 0,0"
     ∷ corrects (COn 3 between) "0 111 A-A B-B 12 0,0" between
     -- a stretch of 96 columns with two calls
-    ∷ accepts (unpackOn 96 wide) 1 (wideRow ∷ (1 ∷ []) ∷ [])
-    ∷ accepts (pack 96 wideRow (1 ∷ []) (nines 32)) 1 (wide ∷ [])
+    ∷ unpacks (unpackOn 96 wide) 1 wideRow (1 ∷ [])
+    ∷ accepts (packOn 96 wideRow (1 ∷ [])) 1 (wide ∷ [])
     ∷ accepts (COn 96 wide) 0 ((replicate 96 1 ++ (wideRow ++ (replicate 96 0 ++ (1 ∷ 0 ∷ [])))) ∷ wide ∷ [])
     -- 12 counts stretches: eight over column 1, which four fragments call, break no rule of C, and nine do
     ∷ equals (coverageOn 4 covered 1) 8
@@ -292,19 +292,19 @@ unfolding allKeep high far
 risingTrials =
     -- equal start and rising tags pass, also where the low byte falls; rising start and falling tags pass
     answers (FOn 1 (tableFrom 1 "A, A" ++ high)) "0 1 A - 111 0,1,2"
-    ∷ accepts (pack 1 (cells "A, A, A") (1 ∷ 2 ∷ 256 ∷ []) (nines 96)) 3 ((tableFrom 1 "A, A" ++ high) ∷ [])
+    ∷ accepts (packOn 1 (cells "A, A, A") (1 ∷ 2 ∷ 256 ∷ [])) 3 ((tableFrom 1 "A, A" ++ high) ∷ [])
     ∷ answers (FOn 2 (frag 2 0 1 1 ++ frag 1 1 1 1)) "0 11 AA -- 11 0,1"
-    ∷ accepts (pack 2 (cells "A-, -A") (2 ∷ 1 ∷ []) (nines 64)) 2 ((frag 2 0 1 1 ++ frag 1 1 1 1) ∷ [])
+    ∷ accepts (packOn 2 (cells "A-, -A") (2 ∷ 1 ∷ [])) 2 ((frag 2 0 1 1 ++ frag 1 1 1 1) ∷ [])
     -- equal start and falling tags are 13, also where the low byte rises
-    ∷ keeps (pack 1 (cells "A, A") (2 ∷ 1 ∷ []) (nines 64)) (refused 13 1)
-    ∷ keeps (pack 1 (cells "A, A") (256 ∷ 1 ∷ []) (nines 64)) (refused 13 1)
+    ∷ keeps (packOn 1 (cells "A, A") (2 ∷ 1 ∷ [])) (refused 13 1)
+    ∷ keeps (packOn 1 (cells "A, A") (256 ∷ 1 ∷ [])) (refused 13 1)
     -- falling start is 13, also where it is not under that of record 0
-    ∷ keeps (pack 2 (cells "-A, A-") (1 ∷ 2 ∷ []) (nines 64)) (refused 13 1)
-    ∷ keeps (pack 3 (cells "A--, --A, -A-") (1 ∷ 2 ∷ 3 ∷ []) (nines 96)) (refused 13 2)
+    ∷ keeps (packOn 2 (cells "-A, A-") (1 ∷ 2 ∷ [])) (refused 13 1)
+    ∷ keeps (packOn 3 (cells "A--, --A, -A-") (1 ∷ 2 ∷ 3 ∷ [])) (refused 13 2)
     -- 9 before 13, and 6 and 4 before both
-    ∷ keeps (pack 2 (cells "-A, A-") (2 ∷ 2 ∷ []) (nines 64)) (refused 9 1)
-    ∷ keeps (pack 1 (1 ∷ 3 ∷ []) (2 ∷ 1 ∷ []) (nines 64)) (refused 6 1)
-    ∷ keeps (pack 97 (1 ∷ replicate 96 0 ++ far 1) (2 ∷ 1 ∷ []) (nines 64)) (refused 4 1)
+    ∷ keeps (packOn 2 (cells "-A, A-") (2 ∷ 2 ∷ [])) (refused 9 1)
+    ∷ keeps (packOn 1 (1 ∷ 3 ∷ []) (2 ∷ 1 ∷ [])) (refused 6 1)
+    ∷ keeps (packOn 97 (1 ∷ replicate 96 0 ++ far 1) (2 ∷ 1 ∷ [])) (refused 4 1)
     ∷ allKeep 1 (frag 2 0 1 1 ++ frag 1 0 1 1) (refused 13 1)
     ++ allKeep 1 (high ++ frag 1 0 1 1) (refused 13 1)
     ++ allKeep 2 (frag 1 1 1 1 ++ frag 2 0 1 1) (refused 13 1)
@@ -319,37 +319,78 @@ pub emptyTrials : List Trial
 unfolding callless far
 emptyTrials =
     -- one among others, 17 at its place; of several the first
-    keeps (pack 2 (cells "--, AA, BB") (1 ∷ 2 ∷ 3 ∷ []) (nines 96)) (refused 17 0)
-    ∷ keeps (pack 2 (cells "AA, --, BB") (1 ∷ 2 ∷ 3 ∷ []) (nines 96)) (refused 17 1)
-    ∷ keeps (pack 2 (cells "AA, BB, --") (1 ∷ 2 ∷ 3 ∷ []) (nines 96)) (refused 17 2)
-    ∷ keeps (pack 2 (cells "AA, --, --") (1 ∷ 2 ∷ 3 ∷ []) (nines 96)) (refused 17 1)
+    keeps (packOn 2 (cells "--, AA, BB") (1 ∷ 2 ∷ 3 ∷ [])) (refused 17 0)
+    ∷ keeps (packOn 2 (cells "AA, --, BB") (1 ∷ 2 ∷ 3 ∷ [])) (refused 17 1)
+    ∷ keeps (packOn 2 (cells "AA, BB, --") (1 ∷ 2 ∷ 3 ∷ [])) (refused 17 2)
+    ∷ keeps (packOn 2 (cells "AA, --, --") (1 ∷ 2 ∷ 3 ∷ [])) (refused 17 1)
     -- one call is enough
-    ∷ accepts (pack 3 (cells "A--, -B-, --A") (1 ∷ 2 ∷ 3 ∷ []) (nines 96)) 3 (tableFrom 1 "A--, -B-, --A" ∷ [])
+    ∷ accepts (packOn 3 (cells "A--, -B-, --A") (1 ∷ 2 ∷ 3 ∷ [])) 3 (tableFrom 1 "A--, -B-, --A" ∷ [])
     -- no columns: every fragment is without calls; no fragments: none is
-    ∷ keeps (pack 0 [] (1 ∷ 2 ∷ []) (nines 64)) (refused 17 0)
-    ∷ accepts (pack 0 [] [] []) 0 ([] ∷ [])
-    ∷ accepts (pack 128 [] [] []) 0 ([] ∷ [])
+    ∷ keeps (packOn 0 [] (1 ∷ 2 ∷ [])) (refused 17 0)
+    ∷ accepts (packOn 0 [] []) 0 ([] ∷ [])
+    ∷ accepts (packOn 128 [] []) 0 ([] ∷ [])
     -- 11 before 17; 6 before 17 in a fragment, and 17 before the 6 of a later one
-    ∷ keeps (pack 1 (cells "-") (1 ∷ []) (nines 31)) (refused 11 0)
-    ∷ keeps (pack 2 (1 ∷ 1 ∷ 0 ∷ 3 ∷ []) (1 ∷ 2 ∷ []) (nines 64)) (refused 6 1)
-    ∷ keeps (pack 2 (0 ∷ 0 ∷ 0 ∷ 3 ∷ []) (1 ∷ 2 ∷ []) (nines 64)) (refused 17 0)
+    ∷ keeps (pack 1 (cells "-") (1 ∷ []) (0 ∷ []) (nines 31)) (refused 11 0)
+    ∷ keeps (packOn 2 (1 ∷ 1 ∷ 0 ∷ 3 ∷ []) (1 ∷ 2 ∷ [])) (refused 6 1)
+    ∷ keeps (packOn 2 (0 ∷ 0 ∷ 0 ∷ 3 ∷ []) (1 ∷ 2 ∷ [])) (refused 17 0)
     -- 17 and 4 cannot meet in a fragment: where no column is called the calls reach over none
-    ∷ keeps (pack 97 (replicate 97 0) (1 ∷ []) (nines 32)) (refused 17 0)
-    ∷ keeps (pack 97 (replicate 97 0 ++ far 1) (1 ∷ 2 ∷ []) (nines 64)) (refused 17 0)
-    ∷ keeps (pack 97 (far 1 ++ replicate 97 0) (1 ∷ 2 ∷ []) (nines 64)) (refused 4 0)
+    ∷ keeps (packOn 97 (replicate 97 0) (1 ∷ [])) (refused 17 0)
+    ∷ keeps (packOn 97 (replicate 97 0 ++ far 1) (1 ∷ 2 ∷ [])) (refused 17 0)
+    ∷ keeps (packOn 97 (far 1 ++ replicate 97 0) (1 ∷ 2 ∷ [])) (refused 4 0)
     -- 17 before 9, before 13 by tag and by start, and before both; 9 and 13 of an earlier fragment before 17
-    ∷ keeps (pack 1 (cells "A, -") (1 ∷ 1 ∷ []) (nines 64)) (refused 17 1)
-    ∷ keeps (pack 1 (cells "A, -") (2 ∷ 1 ∷ []) (nines 64)) (refused 17 1)
-    ∷ keeps (pack 2 (cells "-A, --") (1 ∷ 2 ∷ []) (nines 64)) (refused 17 1)
-    ∷ keeps (pack 2 (cells "-A, --") (2 ∷ 2 ∷ []) (nines 64)) (refused 17 1)
-    ∷ keeps (pack 1 (cells "A, A, -") (1 ∷ 1 ∷ 2 ∷ []) (nines 96)) (refused 9 1)
-    ∷ keeps (pack 2 (cells "-A, A-, --") (1 ∷ 2 ∷ 3 ∷ []) (nines 96)) (refused 13 1)
+    ∷ keeps (packOn 1 (cells "A, -") (1 ∷ 1 ∷ [])) (refused 17 1)
+    ∷ keeps (packOn 1 (cells "A, -") (2 ∷ 1 ∷ [])) (refused 17 1)
+    ∷ keeps (packOn 2 (cells "-A, --") (1 ∷ 2 ∷ [])) (refused 17 1)
+    ∷ keeps (packOn 2 (cells "-A, --") (2 ∷ 2 ∷ [])) (refused 17 1)
+    ∷ keeps (packOn 1 (cells "A, A, -") (1 ∷ 1 ∷ 2 ∷ [])) (refused 9 1)
+    ∷ keeps (packOn 2 (cells "-A, A-, --") (1 ∷ 2 ∷ 3 ∷ [])) (refused 13 1)
     -- a stored one is unpacked, alone too, and pack refuses what unpack gave; the other services' answers to it are tried above and below
-    ∷ accepts (unpackOn 2 callless) 4 (cells "--, AA, AB, BA" ∷ (1 ∷ 2 ∷ 3 ∷ 4 ∷ []) ∷ [])
-    ∷ keeps (pack 2 (cells "--, AA, AB, BA") (1 ∷ 2 ∷ 3 ∷ 4 ∷ []) (nines 128)) (refused 17 0)
-    ∷ accepts (unpackOn 0 (frag 1 0 0 0)) 1 ([] ∷ (1 ∷ []) ∷ [])
+    ∷ unpacks (unpackOn 2 callless) 4 (cells "--, AA, AB, BA") (1 ∷ 2 ∷ 3 ∷ 4 ∷ [])
+    ∷ keeps (packOn 2 (cells "--, AA, AB, BA") (1 ∷ 2 ∷ 3 ∷ 4 ∷ [])) (refused 17 0)
+    ∷ unpacks (unpackOn 0 (frag 1 0 0 0)) 1 [] (1 ∷ [])
     ∷ answers (checkOn 2 (frag 1 0 0 0)) "0 11 -- -- 1 0"
     ∷ []
+
+-- grades (paper 02, T-07), from 0 to 15
+pub gradeTrials : List Trial
+unfolding printed pair same far allKeep
+gradeTrials =
+    -- a grade is restored through pack and unpack, each against the bytes
+    accepts (pack 3 (cells "AA-, BAA, -BB") (10 ∷ 11 ∷ 12 ∷ []) (15 ∷ 0 ∷ 9 ∷ []) (nines 96)) 3 (withGrades (15 ∷ 0 ∷ 9 ∷ []) printed ∷ [])
+    ∷ accepts (unpackOn 3 (withGrades (15 ∷ 0 ∷ 9 ∷ []) printed)) 3 (cells "AA-, BAA, -BB" ∷ (10 ∷ 11 ∷ 12 ∷ []) ∷ (15 ∷ 0 ∷ 9 ∷ []) ∷ [])
+    -- 15 passes everywhere, and check, conflict_counts, S and F do not look at it; C's table keeps it
+    ∷ answers (checkOn 1 (withGrades (15 ∷ 15 ∷ []) pair)) "0 1 A B 12 0,0"
+    ∷ accepts (countsOn 1 (withGrades (15 ∷ 0 ∷ []) pair)) 2 ((0 ∷ 1 ∷ 1 ∷ 0 ∷ []) ∷ [])
+    ∷ answers (SOn 3 (withGrades (0 ∷ 15 ∷ 0 ∷ []) printed)) "1 101 A#B B#A 121 0,0,0"
+    ∷ answers (FOn 3 (withGrades (0 ∷ 0 ∷ 15 ∷ []) printed)) "1 111 AA- BAA 120 0,0,-"
+    ∷ corrects (COn 1 (withGrades (15 ∷ 7 ∷ []) pair)) "0 1 A B 12 0,0" (withGrades (15 ∷ 7 ∷ []) pair)
+    -- pack's 5 at its place, the first of several
+    ∷ keeps (pack 1 (cells "A, A, A") (1 ∷ 2 ∷ 3 ∷ []) (16 ∷ 0 ∷ 0 ∷ []) (nines 96)) (refused 5 0)
+    ∷ keeps (pack 1 (cells "A, A, A") (1 ∷ 2 ∷ 3 ∷ []) (15 ∷ 16 ∷ 255 ∷ []) (nines 96)) (refused 5 1)
+    ∷ keeps (pack 1 (cells "A, A, A") (1 ∷ 2 ∷ 3 ∷ []) (15 ∷ 15 ∷ 255 ∷ []) (nines 96)) (refused 5 2)
+    -- before 6, 17, 4, 9 and 13 of the fragment, and after those of an earlier one
+    ∷ keeps (pack 1 (3 ∷ []) (1 ∷ []) (16 ∷ []) (nines 32)) (refused 5 0)
+    ∷ keeps (pack 1 (cells "-") (1 ∷ []) (16 ∷ []) (nines 32)) (refused 5 0)
+    ∷ keeps (pack 97 (far 1) (1 ∷ []) (16 ∷ []) (nines 32)) (refused 5 0)
+    ∷ keeps (pack 1 (cells "A, A") (1 ∷ 1 ∷ []) (0 ∷ 16 ∷ []) (nines 64)) (refused 5 1)
+    ∷ keeps (pack 1 (cells "A, A") (2 ∷ 1 ∷ []) (0 ∷ 16 ∷ []) (nines 64)) (refused 5 1)
+    ∷ keeps (pack 1 (3 ∷ 1 ∷ []) (1 ∷ 2 ∷ []) (0 ∷ 16 ∷ []) (nines 64)) (refused 6 0)
+    ∷ keeps (pack 1 (cells "A, A, A") (2 ∷ 1 ∷ 3 ∷ []) (0 ∷ 0 ∷ 16 ∷ []) (nines 96)) (refused 13 1)
+    -- pack's grades are m: 1 after 3, before 2, 11 and the fragments
+    ∷ keeps (pack 1 (cells "A, A") (1 ∷ 2 ∷ []) (0 ∷ []) (nines 64)) (refused 1 0)
+    ∷ keeps (pack 1 (cells "A, A") (1 ∷ 2 ∷ []) (0 ∷ 0 ∷ 0 ∷ []) (nines 64)) (refused 1 0)
+    ∷ keeps (pack 129 [] [] (0 ∷ []) []) (refused 3 0)
+    ∷ keeps (pack 0 [] (nines 129) [] []) (refused 1 0)
+    ∷ keeps (pack 1 (3 ∷ []) (1 ∷ []) (16 ∷ 16 ∷ []) (nines 31)) (refused 1 0)
+    ∷ keeps (pack 1 (cells "A") (1 ∷ []) (16 ∷ []) (nines 31)) (refused 11 0)
+    -- unpack's grades buffer is m long: 11 after 2 and before the records
+    ∷ keeps (unpack 1 pair (nines 2) (nines 2) (nines 1)) (refused 11 0)
+    ∷ keeps (unpack 1 pair (nines 2) (nines 2) (nines 3)) (refused 11 0)
+    ∷ keeps (unpack 3 (nines 4128) (nines 387) (nines 129) []) (refused 2 0)
+    ∷ keeps (unpack 2 (same ++ same) (nines 8) (nines 4) (nines 5)) (refused 11 0)
+    -- 16 is 5 at its record from every service that tests records
+    ∷ allKeep 1 (withGrades (15 ∷ 16 ∷ []) pair) (refused 5 1)
+    ++ allKeep 1 (withGrades (255 ∷ 0 ∷ []) pair) (refused 5 0)
 
 -- how often two fragments disagree (paper 02, T-06)
 pub countTrials : List Trial
@@ -398,7 +439,7 @@ ruleTrials =
     -- the records, each by 4 to 7, 9 and 13, which is tried above
     ∷ keeps (checkOn 128 (lone ++ frag 2 0 97 0x55)) (refused 4 1)
     ∷ keeps (checkOn 3 (lone ++ frag 2 1 0 0)) (refused 4 1)
-    ∷ keeps (checkOn 3 (lone ++ filled (2 ∷ 0 ∷ 0 ∷ 0 ∷ 0 ∷ 0 ∷ 1 ∷ 1 ∷ 1 ∷ []))) (refused 5 1)
+    ∷ keeps (checkOn 3 (lone ++ filled (2 ∷ 0 ∷ 0 ∷ 0 ∷ 0 ∷ 0 ∷ 1 ∷ 16 ∷ 1 ∷ []))) (refused 5 1)
     ∷ keeps (checkOn 3 (lone ++ frag 2 0 1 0x05)) (refused 5 1)
     ∷ keeps (checkOn 3 (lone ++ frag 2 0 3 0x1D)) (refused 6 1)
     ∷ keeps (checkOn 3 (lone ++ frag 2 0 2 0x04)) (refused 7 1)
@@ -433,30 +474,30 @@ workTrials =
 pub unpackTrials : List Trial
 unfolding printed same
 unpackTrials =
-    accepts (unpackOn 3 printed) 3 (cells "AA-, BAA, -BB" ∷ (10 ∷ 11 ∷ 12 ∷ []) ∷ [])
-    ∷ accepts (unpackOn 0 []) 0 ([] ∷ [] ∷ [])
-    ∷ keeps (unpack 129 (printed ++ 0 ∷ []) [] []) (refused 3 0)
-    ∷ keeps (unpack 3 (printed ++ 0 ∷ []) [] []) (refused 1 0)
-    ∷ keeps (unpack 3 (nines 4128) [] []) (refused 2 0)
-    ∷ keeps (unpack 2 (same ++ same) (nines 7) (nines 4)) (refused 11 0)
-    ∷ keeps (unpack 2 (same ++ same) (nines 8) (nines 5)) (refused 11 0)
+    unpacks (unpackOn 3 printed) 3 (cells "AA-, BAA, -BB") (10 ∷ 11 ∷ 12 ∷ [])
+    ∷ unpacks (unpackOn 0 []) 0 [] []
+    ∷ keeps (unpack 129 (printed ++ 0 ∷ []) [] [] []) (refused 3 0)
+    ∷ keeps (unpack 3 (printed ++ 0 ∷ []) [] [] []) (refused 1 0)
+    ∷ keeps (unpack 3 (nines 4128) [] [] []) (refused 2 0)
+    ∷ keeps (unpack 2 (same ++ same) (nines 7) (nines 4) (nines 4)) (refused 11 0)
+    ∷ keeps (unpack 2 (same ++ same) (nines 8) (nines 5) (nines 4)) (refused 11 0)
     ∷ keeps (unpackOn 2 (same ++ same)) (refused 9 2)
     ∷ []
 
--- pack, and its rules in order: 3, 1, 2, 11; then 6, 4, 9, and 17 and 13, which are tried above
+-- pack, and its rules in order: 3, 1, 2, 11; then 6, 4, 9, and 5, 17 and 13, which are tried above
 pub packTrials : List Trial
 unfolding printed far
 packTrials =
-    accepts (pack 3 (cells "AA-, BAA, -BB") (10 ∷ 11 ∷ 12 ∷ []) (nines 96)) 3 (printed ∷ [])
-    ∷ keeps (pack 129 (3 ∷ []) (1 ∷ []) (nines 32)) (refused 3 0)
-    ∷ keeps (pack 2 (3 ∷ []) (nines 129) []) (refused 1 0)
-    ∷ keeps (pack 0 [] (nines 129) []) (refused 2 0)
-    ∷ keeps (pack 1 (3 ∷ []) (1 ∷ []) (nines 31)) (refused 11 0)
-    ∷ keeps (pack 97 (far 3) (1 ∷ []) (nines 32)) (refused 6 0)
-    ∷ keeps (pack 97 (far 1) (1 ∷ []) (nines 32)) (refused 4 0)
-    ∷ accepts (pack 3 (cells "A--, A-A") (1 ∷ 2 ∷ []) (nines 64)) 2 (tableFrom 1 "A--, A-A" ∷ [])
-    ∷ keeps (pack 3 (cells "A--, A-A") (1 ∷ 1 ∷ []) (nines 64)) (refused 9 1)
-    ∷ keeps (pack 1 (cells "A, A, A") (1 ∷ 2 ∷ 1 ∷ []) (nines 96)) (refused 9 2)
+    accepts (packOn 3 (cells "AA-, BAA, -BB") (10 ∷ 11 ∷ 12 ∷ [])) 3 (printed ∷ [])
+    ∷ keeps (packOn 129 (3 ∷ []) (1 ∷ [])) (refused 3 0)
+    ∷ keeps (pack 2 (3 ∷ []) (nines 129) (replicate 129 0) []) (refused 1 0)
+    ∷ keeps (pack 0 [] (nines 129) (replicate 129 0) []) (refused 2 0)
+    ∷ keeps (pack 1 (3 ∷ []) (1 ∷ []) (0 ∷ []) (nines 31)) (refused 11 0)
+    ∷ keeps (packOn 97 (far 3) (1 ∷ [])) (refused 6 0)
+    ∷ keeps (packOn 97 (far 1) (1 ∷ [])) (refused 4 0)
+    ∷ accepts (packOn 3 (cells "A--, A-A") (1 ∷ 2 ∷ [])) 2 (tableFrom 1 "A--, A-A" ∷ [])
+    ∷ keeps (packOn 3 (cells "A--, A-A") (1 ∷ 1 ∷ [])) (refused 9 1)
+    ∷ keeps (packOn 1 (cells "A, A, A") (1 ∷ 2 ∷ 1 ∷ [])) (refused 9 2)
     ∷ []
 
 -- find: the first record with the tag, among whole records, or the empty part at the end
@@ -489,8 +530,8 @@ hostTrials =
 
 -- all trials but paper 01's
 pub otherTrials : List Trial
-unfolding aboveTrials answerTrials blockTrials pairTrials mateTrials risingTrials emptyTrials countTrials ruleTrials workTrials unpackTrials packTrials findTrials hostTrials
-otherTrials = aboveTrials ++ answerTrials ++ blockTrials ++ pairTrials ++ mateTrials ++ risingTrials ++ emptyTrials ++ countTrials ++ ruleTrials ++ workTrials ++ unpackTrials ++ packTrials ++ findTrials ++ hostTrials
+unfolding aboveTrials answerTrials blockTrials pairTrials mateTrials risingTrials emptyTrials gradeTrials countTrials ruleTrials workTrials unpackTrials packTrials findTrials hostTrials
+otherTrials = aboveTrials ++ answerTrials ++ blockTrials ++ pairTrials ++ mateTrials ++ risingTrials ++ emptyTrials ++ gradeTrials ++ countTrials ++ ruleTrials ++ workTrials ++ unpackTrials ++ packTrials ++ findTrials ++ hostTrials
 
 -- all of these
 pub others-pass : failing 0 otherTrials ≡ []

@@ -3,8 +3,8 @@
 use Prim.Native.Nat.{ℕ, zero, suc, _*_}
 use mathlib.Core.List.{List, [], _∷_, _++_}
 use lib.ListN.{length, getD, replicate}
-use Rattle.below.specs.Below.{if_then_else_, _==_, _<?_, isnt, anyBelow, tab, concat}
-use Rattle.records.specs.Table.{fragments, partStart, partLength, position, unpackedCells, unpackedTags}
+use Rattle.below.specs.Below.{if_then_else_, _==_, _<?_, _or_, isnt, anyBelow, tab, concat}
+use Rattle.records.specs.Table.{fragments, partStart, partLength, position, unpackedCells, unpackedTags, unpackedGrades}
 use Rattle.records.specs.Writing.{callsStart, callsSpan, withoutCalls, rowOf, packed}
 use Rattle.records.specs.Outcome.{Verdict, accepted, refused}
 use Rattle.records.specs.Rules.{Rule, rule, decide, earlierRules, sizeRules, tableRules, gaplessTableRules}
@@ -30,9 +30,13 @@ lengthRule output exact = rule 11 0 (isnt (length output == exact))
 unfoldable pub depthRules : Grid → List Rule
 depthRules g = tab (g .n) (λ c. rule 12 c (8 <? coverage g c))
 
--- pack's sizes: 3; 1, "cells not m × n"; 2
-unfoldable pub packSizeRules : ℕ → List ℕ → List ℕ → List Rule
-packSizeRules n cells tags = rule 3 0 (128 <? n) ∷ rule 1 0 (isnt (length cells == length tags * n)) ∷ rule 2 0 (128 <? length tags) ∷ []
+-- pack's sizes: 3; 1, "cells not m × n", or grades not m; 2
+unfoldable pub packSizeRules : ℕ → List ℕ → List ℕ → List ℕ → List Rule
+packSizeRules n cells tags grades =
+    rule 3 0 (128 <? n)
+    ∷ rule 1 0 (isnt (length cells == length tags * n) or isnt (length grades == length tags))
+    ∷ rule 2 0 (128 <? length tags)
+    ∷ []
 
 -- the start that pack would write for fragment i, and its tag
 abbrev pub packedStart : ℕ → List ℕ → ℕ → ℕ
@@ -41,23 +45,24 @@ packedStart n cells i = callsStart n (rowOf n cells i)
 abbrev pub packedTag : List ℕ → ℕ → ℕ
 packedTag tags i = getD tags i 0
 
--- pack's fragment i: 6, "a cell over 2"; 17, "no call"; 4, "calls reach over more than 96 columns"; 9 and 13
-unfoldable pub fragmentRules : ℕ → List ℕ → List ℕ → ℕ → List Rule
-fragmentRules n cells tags i =
-    rule 6 i (anyBelow n (λ c. 2 <? rowOf n cells i c))
+-- pack's fragment i: 5, "a grade over 15"; 6, "a cell over 2"; 17, "no call"; 4, "calls reach over more than 96 columns"; 9 and 13
+unfoldable pub fragmentRules : ℕ → List ℕ → List ℕ → List ℕ → ℕ → List Rule
+fragmentRules n cells tags grades i =
+    rule 5 i (15 <? getD grades i 0)
+    ∷ rule 6 i (anyBelow n (λ c. 2 <? rowOf n cells i c))
     ∷ rule 17 i (withoutCalls n (rowOf n cells i))
     ∷ rule 4 i (96 <? callsSpan n (rowOf n cells i))
     ∷ earlierRules (packedStart n cells) (packedTag tags) i
 
 -- ---- the rules of each service
 
-unfoldable pub unpackRules : ℕ → List ℕ → List ℕ → List ℕ → List Rule
-unpackRules n table cells tags =
-    concat (sizeRules n table ∷ (lengthRule cells (fragments table * n) ∷ lengthRule tags (fragments table) ∷ []) ∷ tableRules n table ∷ [])
+unfoldable pub unpackRules : ℕ → List ℕ → List ℕ → List ℕ → List ℕ → List Rule
+unpackRules n table cells tags grades =
+    concat (sizeRules n table ∷ (lengthRule cells (fragments table * n) ∷ lengthRule tags (fragments table) ∷ lengthRule grades (fragments table) ∷ []) ∷ tableRules n table ∷ [])
 
-unfoldable pub packRules : ℕ → List ℕ → List ℕ → List ℕ → List Rule
-packRules n cells tags table =
-    concat (packSizeRules n cells tags ∷ (lengthRule table (32 * length tags) ∷ []) ∷ tab (length tags) (fragmentRules n cells tags))
+unfoldable pub packRules : ℕ → List ℕ → List ℕ → List ℕ → List ℕ → List Rule
+packRules n cells tags grades table =
+    concat (packSizeRules n cells tags grades ∷ (lengthRule table (32 * length tags) ∷ []) ∷ tab (length tags) (fragmentRules n cells tags grades))
 
 unfoldable pub checkRules : ℕ → List ℕ → List ℕ → List Rule
 checkRules n table answer = concat (sizeRules n table ∷ (lengthRule answer (answerSize (fragments table) n) ∷ []) ∷ tableRules n table ∷ [])
@@ -105,22 +110,23 @@ pub record Unpacked : Type 0 where
   pub outcome : Verdict
   pub cells : List ℕ
   pub tags : List ℕ
+  pub grades : List ℕ
 
--- unpack: "m × n cells, one byte each by fragment and then column, and m tags"; "unpack and pack return m"
-unfoldable pub unpackLeaves : ℕ → List ℕ → List ℕ → List ℕ → Unpacked
-unpackLeaves n table cells tags =
-    let v = decide (unpackRules n table cells tags) (accepted (fragments table)) in
-    record { outcome = v; cells = written v (unpackedCells n table) cells; tags = written v (unpackedTags table) tags }
+-- unpack: "m × n cells, one byte each by fragment and then column, and m tags", and m grades; "unpack and pack return m"
+unfoldable pub unpackLeaves : ℕ → List ℕ → List ℕ → List ℕ → List ℕ → Unpacked
+unpackLeaves n table cells tags grades =
+    let v = decide (unpackRules n table cells tags grades) (accepted (fragments table)) in
+    record { outcome = v; cells = written v (unpackedCells n table) cells; tags = written v (unpackedTags table) tags; grades = written v (unpackedGrades table) grades }
 
 pub record Packed : Type 0 where
   pub outcome : Verdict
   pub table : List ℕ
 
 -- pack: "the reverse; its m is the number of tags given"
-unfoldable pub packLeaves : ℕ → List ℕ → List ℕ → List ℕ → Packed
-packLeaves n cells tags table =
-    let v = decide (packRules n cells tags table) (accepted (length tags)) in
-    record { outcome = v; table = written v (packed n cells tags) table }
+unfoldable pub packLeaves : ℕ → List ℕ → List ℕ → List ℕ → List ℕ → Packed
+packLeaves n cells tags grades table =
+    let v = decide (packRules n cells tags grades table) (accepted (length tags)) in
+    record { outcome = v; table = written v (packed n cells tags grades) table }
 
 pub record Found : Type 0 where
   pub start : ℕ

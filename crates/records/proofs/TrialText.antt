@@ -6,7 +6,7 @@ use Prim.Native.Nat.{ℕ, zero, suc, _+_, _*_, _-_}
 use Prim.Native.Char.{code}
 use Prim.Native.String.{String}
 use lib.Dec.{eqb, ltb}
-use lib.ListN.{length, drop, getD}
+use lib.ListN.{length, take, drop, getD}
 use Rattle.below.specs.Below.{if_then_else_}
 use Rattle.records.proofs.TrialTools.{sameList, filled, made}
 use Rattle.below.specs.Text.{ascii}
@@ -144,3 +144,8 @@ recordsFrom tag (row ∷ rows) = rowRecord tag (each letter row) ++ recordsFrom 
 unfoldable pub tableFrom : ℕ → String → List ℕ
 unfolding ascii without split recordsFrom
 tableFrom tag text = recordsFrom tag (split (code ",") (without (code " ") (ascii text)))
+
+-- a table with these grades in the places of its own
+unfoldable pub withGrades : List ℕ → List ℕ → List ℕ
+withGrades [] table = table
+withGrades (g ∷ gs) table = take 7 table ++ (g ∷ (take 24 (drop 8 table) ++ withGrades gs (drop 32 table)))
