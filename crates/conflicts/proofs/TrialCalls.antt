@@ -21,7 +21,7 @@ use Rattle.conflicts.specs.Corrections.{correctionCost, sideCount, sideP
 use Rattle.conflicts.specs.Haplotypes.{sideCall, haplotype, haplotypes}
 use Rattle.conflicts.specs.Blocks.{linked, reached, lowest, block}
 use Rattle.conflicts.specs.Answer.{answerSize, answer, checkAnswer, snpAnswer, fragmentAnswer, correctedGrid, correctionAnswer, rewrittenCode, rewritten, correctedTable}
-use Rattle.conflicts.specs.Services.{workRules, lengthRule, depthRules, packSizeRules, fragmentRules, unpackRules, packRules, checkRules, conflictCountsRules, lentStages, removalRules, correctionStages, correctionRules, unpackLeaves, packLeaves, findLeaves, checkLeaves, conflictCountsLeaves, snpRemovalLeaves, fragmentRemovalLeaves, correctionsLeaves}
+use Rattle.conflicts.specs.Services.{workRules, lengthRule, depthRules, packSizeRules, ungradedRules, fragmentRules, unpackRules, packRules, checkRules, conflictCountsRules, lentStages, removalRules, correctionStages, correctionRules, unpackLeaves, packLeaves, findLeaves, checkLeaves, conflictCountsLeaves, snpRemovalLeaves, fragmentRemovalLeaves, correctionsLeaves}
 use Rattle.conflicts.specs.Host.{hostRead}
 use Rattle.records.proofs.TrialTools.{sameVerdict, sameList}
 use Rattle.records.proofs.TrialText.{countIn, answerIn, marks, cells, frag, tableFrom, withGrades}
@@ -175,7 +175,7 @@ unfolding marks cells frag tableFrom withGrades leaves workLeft lent nines work9
     sidesOf sideLists sameSide lawful errorFree firstSides snpKeepMarks fragmentKeepMarks
     correctionCost sideCount sidePrice majorityLetter columnCost cost leastCostSides sideLetter correctedCell corrected differs cellCount changedCells
     sideCall haplotype haplotypes linked reached lowest block answerSize answer checkAnswer snpAnswer fragmentAnswer correctedGrid correctionAnswer rewrittenCode rewritten correctedTable
-    workRules lengthRule depthRules packSizeRules fragmentRules unpackRules packRules checkRules conflictCountsRules lentStages removalRules correctionStages correctionRules
+    workRules lengthRule depthRules packSizeRules ungradedRules fragmentRules unpackRules packRules checkRules conflictCountsRules lentStages removalRules correctionStages correctionRules
     unpackLeaves packLeaves findLeaves checkLeaves conflictCountsLeaves snpRemovalLeaves fragmentRemovalLeaves correctionsLeaves
 passes (accepts call count buffers) = left call (accepted count) buffers
 passes (keeps call outcome) = left call outcome (lent call)

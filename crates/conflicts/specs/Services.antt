@@ -45,14 +45,17 @@ packedStart n cells i = callsStart n (rowOf n cells i)
 abbrev pub packedTag : List ℕ → ℕ → ℕ
 packedTag tags i = getD tags i 0
 
--- pack's fragment i: 5, "a grade over 15"; 6, "a cell over 2"; 17, "no call"; 4, "calls reach over more than 96 columns"; 9 and 13
-unfoldable pub fragmentRules : ℕ → List ℕ → List ℕ → List ℕ → ℕ → List Rule
-fragmentRules n cells tags grades i =
-    rule 5 i (15 <? getD grades i 0)
-    ∷ rule 6 i (anyBelow n (λ c. 2 <? rowOf n cells i c))
+-- pack's fragment i but for its grade: 6, "a cell over 2"; 17, "no call"; 4, "calls reach over more than 96 columns"; 9 and 13
+unfoldable pub ungradedRules : ℕ → List ℕ → List ℕ → ℕ → List Rule
+ungradedRules n cells tags i =
+    rule 6 i (anyBelow n (λ c. 2 <? rowOf n cells i c))
     ∷ rule 17 i (withoutCalls n (rowOf n cells i))
     ∷ rule 4 i (96 <? callsSpan n (rowOf n cells i))
     ∷ earlierRules (packedStart n cells) (packedTag tags) i
+
+-- pack's fragment i: 5, a grade over 15, and then those
+unfoldable pub fragmentRules : ℕ → List ℕ → List ℕ → List ℕ → ℕ → List Rule
+fragmentRules n cells tags grades i = rule 5 i (15 <? getD grades i 0) ∷ ungradedRules n cells tags i
 
 -- ---- the rules of each service
 

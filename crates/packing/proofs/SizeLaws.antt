@@ -6,10 +6,10 @@ use mathlib.Core.List.{List, List·Memᴰ·head, List·Memᴰ·tail}
 use Prim.Native.Nat.{ℕ, _+_, _*_, _/_, _%_, _≤_, _<_}
 use native.Mathlib.Nat.{mul-zero, div-add-mod', mul-mod-left, mul-div-cancel}
 use native.Mathlib.Omega.{arith}
-use lib.Dec.{eqb}
+use lib.Dec.{T, eqb}
 use lib.ListN.{length}
-use Rattle.below.specs.Below.{_==_}
-use Rattle.below.proofs.BelowLaws.{isnt-isnt, T-isnt-isnt, isnt-<?, le-isnt, same-test, ==-eq, eq-==}
+use Rattle.below.specs.Below.{_==_, _or_, isnt}
+use Rattle.below.proofs.BelowLaws.{isnt-isnt, T-isnt-isnt, neither, isnt-or, isnt-<?, le-isnt, same-test, ==-eq, eq-==}
 use Rattle.below.proofs.SearchLaws.{==-false}
 use Rattle.below.proofs.RowLaws.{row-within}
 use Rattle.records.proofs.RuleLaws.{decide-none, unbroken}
@@ -17,31 +17,37 @@ use Rattle.records.proofs.KeptLaws.{rule-unbroken}
 use Rattle.conflicts.specs.Services.{packSizeRules}
 use Rattle.packing.specs.Algorithm.Sizes.{PackSized}
 
-module _ {n : ℕ} {cells tags : List ℕ} (sized : PackSized n cells tags) where
+module _ {n : ℕ} {cells tags grades : List ℕ} (sized : PackSized n cells tags grades) where
   -- 3
   pub pack-n : n ≤ 128
   unfolding packSizeRules
-  pack-n = isnt-<? 128 n (unbroken (packSizeRules n cells tags) _ _ (sized .kept) _ (List·Memᴰ·head refl))
+  pack-n = isnt-<? 128 n (unbroken (packSizeRules n cells tags grades) _ _ (sized .kept) _ (List·Memᴰ·head refl))
 
-  -- 1
-  pub pack-exact : length cells ≡ length tags * n
+  -- 1, of the cells and of the grades
+  lengths-kept : T (isnt (isnt (length cells == length tags * n) or isnt (length grades == length tags)))
   unfolding packSizeRules
-  pack-exact = ==-eq _ _ (isnt-isnt _ (unbroken (packSizeRules n cells tags) _ _ (sized .kept) _ (List·Memᴰ·tail (List·Memᴰ·head refl))))
+  lengths-kept = unbroken (packSizeRules n cells tags grades) _ _ (sized .kept) _ (List·Memᴰ·tail (List·Memᴰ·head refl))
+
+  pub pack-exact : length cells ≡ length tags * n
+  pack-exact = ==-eq _ _ (isnt-isnt _ (neither _ _ lengths-kept .0))
+
+  pub pack-graded : length grades ≡ length tags
+  pack-graded = ==-eq _ _ (isnt-isnt _ (neither _ _ lengths-kept .1))
 
   -- 2
   pub pack-m : length tags ≤ 128
   unfolding packSizeRules
-  pack-m = isnt-<? 128 _ (unbroken (packSizeRules n cells tags) _ _ (sized .kept) _ (List·Memᴰ·tail (List·Memᴰ·tail (List·Memᴰ·head refl))))
+  pack-m = isnt-<? 128 _ (unbroken (packSizeRules n cells tags grades) _ _ (sized .kept) _ (List·Memᴰ·tail (List·Memᴰ·tail (List·Memᴰ·head refl))))
 
   -- the row of a fragment lies within the cells
   pub pack-row : (i : ℕ) → i < length tags → i * n + n ≤ length cells
   pack-row i h = let e = pack-exact in let r = row-within (length tags) n i h in omega arith
 
 -- sizes that pack takes
-pub pack-sized-of : {n : ℕ} {cells tags : List ℕ} → n ≤ 128 → length cells ≡ length tags * n → length tags ≤ 128 → PackSized n cells tags
+pub pack-sized-of : {n : ℕ} {cells tags grades : List ℕ} → n ≤ 128 → length cells ≡ length tags * n → length grades ≡ length tags → length tags ≤ 128 → PackSized n cells tags grades
 unfolding packSizeRules
-pack-sized-of wide exact few = record {
-  kept = rule-unbroken _ _ _ (le-isnt _ _ wide) ∙ rule-unbroken _ _ _ (T-isnt-isnt _ (eq-== _ _ exact)) ∙ rule-unbroken _ _ _ (le-isnt _ _ few) ∙ decide-none _;
+pack-sized-of wide exact graded few = record {
+  kept = rule-unbroken _ _ _ (le-isnt _ _ wide) ∙ rule-unbroken _ _ _ (isnt-or _ _ (T-isnt-isnt _ (eq-== _ _ exact)) (T-isnt-isnt _ (eq-== _ _ graded))) ∙ rule-unbroken _ _ _ (le-isnt _ _ few) ∙ decide-none _;
 }
 
 -- ---- a length that is a product, by a division

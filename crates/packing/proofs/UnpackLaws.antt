@@ -11,13 +11,14 @@ use lib.Seq.{ext-getD}
 use denote.Ref.{RefT, now}
 use Rattle.below.specs.Below.{if_then_else_, _<?_, tab, concat}
 use Rattle.records.specs.Record.{codeAt}
-use Rattle.records.specs.Table.{fragments, recordAt, Part, partStart, partLength, unpackedCells, unpackedTags}
+use Rattle.records.specs.Table.{fragments, recordAt, Part, partStart, partLength, unpackedCells, unpackedTags, unpackedGrades}
 use Rattle.records.specs.Outcome.{Verdict, accepted, refused}
 use Rattle.records.specs.Rules.{Rule, decide, sizeRules, tableRules}
-use Rattle.below.proofs.BelowLaws.{if-true, lt-<?, length-tab, getD-tab, is-true, is-false, eq-==, ne-isnt, T-isnt-isnt}
-use Rattle.records.proofs.RuleLaws.{accepted-count, rule-broken, rule-kept, decide-none, stage-kept, stage-refused, stage-last, accepted-stage}
+use Rattle.below.proofs.BelowLaws.{if-true, lt-<?, length-tab, getD-tab, is-true, ne-isnt}
+use Rattle.records.proofs.RuleLaws.{accepted-count, rule-broken, decide-none, stage-kept, stage-refused, stage-last, accepted-stage}
 use Rattle.conflicts.specs.Services.{written, lengthRule, unpackRules, unpackLeaves}
 use Rattle.conflicts.proofs.Outcomes.{unpack-refused}
+use Rattle.conflicts.proofs.AcceptedServices.{length-kept}
 use Rattle.records.specs.Algorithm.Kept.{SizesKept}
 use Rattle.records.proofs.AcceptedLaws.{sized-count}
 use Rattle.below.proofs.RowLaws.{length-flat, flat-at}
@@ -38,9 +39,14 @@ unpacked-row n t i c part e p g h =
     ∙ sym (flat-at n (λ i. codeAt (recordAt (now t) i)) 0 (fragments (now t)) i c g h)
     ∙ ap (λ (k : ℕ). getD (unpackedCells n (now t)) (k + c) 0) (sym e)
 
+-- 11, broken
+length-broken : (output : List ℕ) (exact : ℕ) (v : Verdict) (rest : List Rule) → (length output ≡ exact → ⊥) → decide (lengthRule output exact ∷ rest) v ≡ refused 11 0
+unfolding lengthRule
+length-broken output exact v rest f = rule-broken _ _ _ (sym (is-true _ (ne-isnt _ _ f)))
+
 -- ---- what an accepted unpack keeps and leaves
 
-module _ (n k : ℕ) (table cells tags : List ℕ) (e : unpackLeaves n table cells tags .outcome ≡ accepted k) where
+module _ (n k : ℕ) (table cells tags grades : List ℕ) (e : unpackLeaves n table cells tags grades .outcome ≡ accepted k) where
   pub accepted-sized : SizesKept n (fragments table) table
   unfolding unpackLeaves unpackRules
   accepted-sized = record { kept = accepted-stage _ _ k e _ (List·Memᴰ·head refl) }
@@ -49,56 +55,68 @@ module _ (n k : ℕ) (table cells tags : List ℕ) (e : unpackLeaves n table cel
   unfolding unpackLeaves unpackRules
   accepted-records = accepted-stage _ _ k e _ (List·Memᴰ·tail (List·Memᴰ·tail (List·Memᴰ·head refl)))
 
-  pub left-cells : unpackLeaves n table cells tags .cells ≡ unpackedCells n table
+  pub left-cells : unpackLeaves n table cells tags grades .cells ≡ unpackedCells n table
   unfolding unpackLeaves
   left-cells = ap (λ (v : Verdict). written v (unpackedCells n table) cells) e
 
-  pub left-tags : unpackLeaves n table cells tags .tags ≡ unpackedTags table
+  pub left-tags : unpackLeaves n table cells tags grades .tags ≡ unpackedTags table
   unfolding unpackLeaves
   left-tags = ap (λ (v : Verdict). written v (unpackedTags table) tags) e
 
+  pub left-grades : unpackLeaves n table cells tags grades .grades ≡ unpackedGrades table
+  unfolding unpackLeaves
+  left-grades = ap (λ (v : Verdict). written v (unpackedGrades table) grades) e
+
 -- ---- what unpack returns and leaves, stage by stage
 
-module _ (n m : ℕ) (table cells tags : List ℕ) where
-  pub unpack-sizes : (number place : ℕ) → decide (sizeRules n table) (accepted (fragments table)) ≡ refused number place → unpackLeaves n table cells tags .outcome ≡ refused number place
+module _ (n m : ℕ) (table cells tags grades : List ℕ) where
+  pub unpack-sizes : (number place : ℕ) → decide (sizeRules n table) (accepted (fragments table)) ≡ refused number place → unpackLeaves n table cells tags grades .outcome ≡ refused number place
   unfolding unpackLeaves unpackRules
   unpack-sizes number place e = stage-refused _ _ _ _ number place e
 
   module _ (sized : SizesKept n m table) where
     lengths : List Rule
-    lengths = lengthRule cells (fragments table * n) ∷ lengthRule tags (fragments table) ∷ []
+    lengths = lengthRule cells (fragments table * n) ∷ lengthRule tags (fragments table) ∷ lengthRule grades (fragments table) ∷ []
 
-    after-sizes : unpackLeaves n table cells tags .outcome ≡ decide (concat (lengths ∷ tableRules n table ∷ [])) (accepted (fragments table))
+    after-sizes : unpackLeaves n table cells tags grades .outcome ≡ decide (concat (lengths ∷ tableRules n table ∷ [])) (accepted (fragments table))
     unfolding unpackLeaves unpackRules lengths
     after-sizes = stage-kept _ _ _ _ m (sized .kept)
 
-    pub unpack-cells : (length cells ≡ m * n → ⊥) → unpackLeaves n table cells tags .outcome ≡ refused 11 0
-    unfolding lengths lengthRule
-    unpack-cells f = after-sizes ∙ stage-refused _ _ 0 _ 11 0 (rule-broken _ _ _ (sym (is-true _ (ne-isnt _ _ (λ e. f (e ∙ ap (λ (k : ℕ). k * n) (sized-count sized)))))))
+    -- 11, of a buffer that is to hold m × n cells, or m tags or grades
+    of-cells : length cells ≡ m * n → length cells ≡ fragments table * n
+    of-cells e = e ∙ ap (λ (k : ℕ). k * n) (sym (sized-count sized))
 
-    pub unpack-tags : length cells ≡ m * n → (length tags ≡ m → ⊥) → unpackLeaves n table cells tags .outcome ≡ refused 11 0
-    unfolding lengths lengthRule
-    unpack-tags e f = after-sizes ∙ stage-refused _ _ 0 _ 11 0 (
-        rule-kept _ _ _ (sym (is-false _ (T-isnt-isnt _ (eq-== _ _ (e ∙ ap (λ (k : ℕ). k * n) (sym (sized-count sized)))))))
-        ∙ rule-broken _ _ _ (sym (is-true _ (ne-isnt _ _ (λ d. f (d ∙ sized-count sized))))))
+    of-fragments : (buffer : List ℕ) → length buffer ≡ m → length buffer ≡ fragments table
+    of-fragments buffer e = e ∙ sym (sized-count sized)
 
-    pub unpack-records : length cells ≡ m * n → length tags ≡ m → unpackLeaves n table cells tags .outcome ≡ decide (tableRules n table) (accepted (fragments table))
-    unfolding lengths lengthRule
-    unpack-records e d = after-sizes ∙ stage-kept _ _ 0 _ 0 (
-        rule-kept _ _ _ (sym (is-false _ (T-isnt-isnt _ (eq-== _ _ (e ∙ ap (λ (k : ℕ). k * n) (sym (sized-count sized)))))))
-        ∙ rule-kept _ _ _ (sym (is-false _ (T-isnt-isnt _ (eq-== _ _ (d ∙ sym (sized-count sized))))))
-        ∙ decide-none _)
+    pub unpack-cells : (length cells ≡ m * n → ⊥) → unpackLeaves n table cells tags grades .outcome ≡ refused 11 0
+    unfolding lengths
+    unpack-cells f = after-sizes ∙ stage-refused _ _ 0 _ 11 0 (length-broken cells _ _ _ (λ e. f (e ∙ ap (λ (k : ℕ). k * n) (sized-count sized))))
+
+    pub unpack-tags : length cells ≡ m * n → (length tags ≡ m → ⊥) → unpackLeaves n table cells tags grades .outcome ≡ refused 11 0
+    unfolding lengths
+    unpack-tags e f = after-sizes ∙ stage-refused _ _ 0 _ 11 0 (length-kept cells _ _ _ (of-cells e) ∙ length-broken tags _ _ _ (λ d. f (d ∙ sized-count sized)))
+
+    pub unpack-grades : length cells ≡ m * n → length tags ≡ m → (length grades ≡ m → ⊥) → unpackLeaves n table cells tags grades .outcome ≡ refused 11 0
+    unfolding lengths
+    unpack-grades e d f = after-sizes ∙ stage-refused _ _ 0 _ 11 0 (
+        length-kept cells _ _ _ (of-cells e) ∙ length-kept tags _ _ _ (of-fragments tags d) ∙ length-broken grades _ _ _ (λ h. f (h ∙ sized-count sized)))
+
+    pub unpack-records : length cells ≡ m * n → length tags ≡ m → length grades ≡ m → unpackLeaves n table cells tags grades .outcome ≡ decide (tableRules n table) (accepted (fragments table))
+    unfolding lengths
+    unpack-records e d h = after-sizes ∙ stage-kept _ _ 0 _ 0 (
+        length-kept cells _ _ _ (of-cells e) ∙ length-kept tags _ _ _ (of-fragments tags d) ∙ length-kept grades _ _ _ (of-fragments grades h) ∙ decide-none _)
         ∙ stage-last _ _
 
   -- a refusal, as the contract has it
-  pub unpack-refuses : (number place : ℕ) → unpackLeaves n table cells tags .outcome ≡ refused number place
-      → (refused number place ≡ unpackLeaves n table cells tags .outcome) × ((cells ≡ unpackLeaves n table cells tags .cells) × (tags ≡ unpackLeaves n table cells tags .tags))
-  unpack-refuses number place e = let r = unpack-refused n number place table cells tags e in (sym e, (sym (r .0), sym (r .1)))
+  pub unpack-refuses : (number place : ℕ) → unpackLeaves n table cells tags grades .outcome ≡ refused number place
+      → (refused number place ≡ unpackLeaves n table cells tags grades .outcome) × ((cells ≡ unpackLeaves n table cells tags grades .cells) × ((tags ≡ unpackLeaves n table cells tags grades .tags) × (grades ≡ unpackLeaves n table cells tags grades .grades)))
+  unpack-refuses number place e = let r = unpack-refused n number place table cells tags grades e in (sym e, (sym (r .0), (sym (r .1), sym (r .2))))
 
   -- an acceptance, as the contract has it
-  pub unpack-accepts : (k : ℕ) → fragments table ≡ m → unpackLeaves n table cells tags .outcome ≡ decide (tableRules n table) (accepted (fragments table))
+  pub unpack-accepts : (k : ℕ) → fragments table ≡ m → unpackLeaves n table cells tags grades .outcome ≡ decide (tableRules n table) (accepted (fragments table))
       → decide (tableRules n table) (accepted (fragments table)) ≡ accepted k
-      → (accepted m ≡ unpackLeaves n table cells tags .outcome) × ((unpackedCells n table ≡ unpackLeaves n table cells tags .cells) × (unpackedTags table ≡ unpackLeaves n table cells tags .tags))
+      → (accepted m ≡ unpackLeaves n table cells tags grades .outcome) × ((unpackedCells n table ≡ unpackLeaves n table cells tags grades .cells) × ((unpackedTags table ≡ unpackLeaves n table cells tags grades .tags) × (unpackedGrades table ≡ unpackLeaves n table cells tags grades .grades)))
   unpack-accepts k count e d =
       let v = e ∙ d in
-      (ap accepted (sym count ∙ accepted-count (tableRules n table) (fragments table) k d) ∙ sym v, (sym (left-cells n k table cells tags v), sym (left-tags n k table cells tags v)))
+      (ap accepted (sym count ∙ accepted-count (tableRules n table) (fragments table) k d) ∙ sym v, (sym (left-cells n k table cells tags grades v), (sym (left-tags n k table cells tags grades v), sym (left-grades n k table cells tags grades v))))

@@ -1,4 +1,4 @@
-// Pack: cells and tags to a table's records.
+// Pack: cells, tags and grades to a table's records.
 ghost use mathlib.Core.Path.{_≡_};
 ghost use Prim.Native.Nat.{_+_, _*_, _-_, _<_, _≤_};
 ghost use lib.ListN.{length};
@@ -6,9 +6,10 @@ ghost use Rattle.below.specs.Below.{_==_, _<?_, _and_};
 ghost use Rattle.records.specs.Writing.{packed};
 ghost use Rattle.records.specs.Outcome.{accepted, outcomeOf};
 ghost use Rattle.records.specs.Rules.{decide, tagTwice, precedes};
-ghost use Rattle.conflicts.specs.Services.{packSizeRules, packedStart, packedTag, fragmentRules, packLeaves};
+ghost use Rattle.conflicts.specs.Services.{packSizeRules, packedStart, packedTag, ungradedRules, fragmentRules, packLeaves};
 ghost use Rattle.packing.specs.Algorithm.Sizes.{PackSized, FragmentsKept, Starts, fragmentsRules, refuses};
 use records::Outcome;
+use records::byte;
 use records::comes_before;
 use writing::any_unknown;
 use writing::calls_end;
@@ -29,14 +30,17 @@ fn is_product(len: usize, m: usize, n: usize) -> bool
 }
 
 // The sizes by 3, 1, 2: the first fault, or the number of tags.
-fn pack_size_fault(n: usize, cells: &[u8], tags: &[u32]) -> Outcome
-    ensures { λ r. ⌜ outcomeOf r ≡ decide (packSizeRules n (now (cells .entry)) (now (tags .entry))) (accepted (length (now (tags .entry)))) ⌝ }
+fn pack_size_fault(n: usize, cells: &[u8], tags: &[u32], grades: &[u8]) -> Outcome
+    ensures { λ r. ⌜ outcomeOf r ≡ decide (packSizeRules n (now (cells .entry)) (now (tags .entry)) (now (grades .entry))) (accepted (length (now (tags .entry)))) ⌝ }
 {
     if 128 < n {
         return Outcome::Refused(3, 0);
     }
     let m = tags.len();
     if !is_product(cells.len(), m, n) {
+        return Outcome::Refused(1, 0);
+    }
+    if grades.len() != m {
         return Outcome::Refused(1, 0);
     }
     if 128 < m {
@@ -82,7 +86,7 @@ fn start_of(n: usize, cells: &[u8], i: usize) -> usize
 }
 
 // Fragment i by 6, 17, 4, 9 and 13, by its start and the last one: no row is looked through for its start twice.
-fn fragment_fault(
+fn ungraded_fault(
     n: usize,
     cells: &[u8],
     tags: &[u32],
@@ -90,10 +94,10 @@ fn fragment_fault(
     start: usize,
     last: usize,
 ) -> Outcome
-    requires { ⌜ PackSized n (now cells) (now tags) ⌝ }
+    requires { ⌜ (n ≤ 128) × (i < 128) × (i * n + n ≤ length (now cells)) ⌝ }
     requires { ⌜ i < length (now tags) ⌝ }
     requires { ⌜ Starts n (now cells) i start last ⌝ }
-    ensures { λ r. ⌜ outcomeOf r ≡ decide (fragmentRules n (now (cells .entry)) (now (tags .entry)) i) (accepted 0) ⌝ }
+    ensures { λ r. ⌜ outcomeOf r ≡ decide (ungradedRules n (now (cells .entry)) (now (tags .entry)) i) (accepted 0) ⌝ }
 {
     let from = i * n;
     let row = &cells[from..from + n];
@@ -116,17 +120,38 @@ fn fragment_fault(
     Outcome::Accepted(0)
 }
 
-// The fragments from 0, each by 6, 17, 4, 9 and 13: the first fault, or the number of tags.
-fn fragments_fault(n: usize, cells: &[u8], tags: &[u32]) -> Outcome
-    requires { ⌜ PackSized n (now cells) (now tags) ⌝ }
-    ensures { λ r. ⌜ outcomeOf r ≡ decide (fragmentsRules n (now (cells .entry)) (now (tags .entry))) (accepted (length (now (tags .entry)))) ⌝ }
+// Fragment i by 5, and then by its cells and its tag.
+fn fragment_fault(
+    n: usize,
+    cells: &[u8],
+    tags: &[u32],
+    grades: &[u8],
+    i: usize,
+    start: usize,
+    last: usize,
+) -> Outcome
+    requires { ⌜ PackSized n (now cells) (now tags) (now grades) ⌝ }
+    requires { ⌜ i < length (now tags) ⌝ }
+    requires { ⌜ Starts n (now cells) i start last ⌝ }
+    ensures { λ r. ⌜ outcomeOf r ≡ decide (fragmentRules n (now (cells .entry)) (now (tags .entry)) (now (grades .entry)) i) (accepted 0) ⌝ }
+{
+    if 15 < byte(grades, i) {
+        return Outcome::Refused(5, i);
+    }
+    ungraded_fault(n, cells, tags, i, start, last)
+}
+
+// The fragments from 0, each by 5, 6, 17, 4, 9 and 13: the first fault, or the number of tags.
+fn fragments_fault(n: usize, cells: &[u8], tags: &[u32], grades: &[u8]) -> Outcome
+    requires { ⌜ PackSized n (now cells) (now tags) (now grades) ⌝ }
+    ensures { λ r. ⌜ outcomeOf r ≡ decide (fragmentsRules n (now (cells .entry)) (now (tags .entry)) (now (grades .entry))) (accepted (length (now (tags .entry)))) ⌝ }
 {
     let m = tags.len();
     let mut last = 0;
     let mut i = 0;
     while i < m {
         let start = start_of(n, cells, i);
-        let fault = fragment_fault(n, cells, tags, i, start, last);
+        let fault = fragment_fault(n, cells, tags, grades, i, start, last);
         if let Outcome::Refused(number, place) = fault {
             return Outcome::Refused(number, place);
         }
@@ -137,17 +162,22 @@ fn fragments_fault(n: usize, cells: &[u8], tags: &[u32]) -> Outcome
 }
 
 // Writes the record of each fragment into its own 32 bytes.
-fn fill_table(n: usize, cells: &[u8], tags: &[u32], table: &mut [u8])
-    requires { ⌜ PackSized n (now cells) (now tags) ⌝ }
-    requires { ⌜ FragmentsKept n (now cells) (now tags) ⌝ }
+fn fill_table(n: usize, cells: &[u8], tags: &[u32], grades: &[u8], table: &mut [u8])
+    requires { ⌜ PackSized n (now cells) (now tags) (now grades) ⌝ }
+    requires { ⌜ FragmentsKept n (now cells) (now tags) (now grades) ⌝ }
     requires { ⌜ length (now table) ≡ 32 * length (now tags) ⌝ }
-    ensures { λ _. ⌜ now (table .exit) ≡ packed n (now (cells .entry)) (now (tags .entry)) ⌝ }
+    ensures { λ _. ⌜ now (table .exit) ≡ packed n (now (cells .entry)) (now (tags .entry)) (now (grades .entry)) ⌝ }
 {
     let mut first = 0;
     let mut i = 0;
     while i < tags.len() {
         let to = 32 * i;
-        write_record(tags[i], &cells[first..first + n], &mut table[to..to + 32]);
+        write_record(
+            tags[i],
+            byte(grades, i),
+            &cells[first..first + n],
+            &mut table[to..to + 32],
+        );
         first += n;
         i += 1;
     }
@@ -164,30 +194,30 @@ fn is_refusal(outcome: Outcome) -> bool
 }
 
 // Pack once the sizes are kept: the table's length, then the fragments.
-fn pack_sized(n: usize, cells: &[u8], tags: &[u32], table: &mut [u8]) -> Outcome
-    requires { ⌜ PackSized n (now cells) (now tags) ⌝ }
-    ensures outcome { λ r. ⌜ outcomeOf r ≡ packLeaves n (now (cells .entry)) (now (tags .entry)) (now (table .entry)) .outcome ⌝ }
-    ensures table { λ _. ⌜ now (table .exit) ≡ packLeaves n (now (cells .entry)) (now (tags .entry)) (now (table .entry)) .table ⌝ }
+fn pack_sized(n: usize, cells: &[u8], tags: &[u32], grades: &[u8], table: &mut [u8]) -> Outcome
+    requires { ⌜ PackSized n (now cells) (now tags) (now grades) ⌝ }
+    ensures outcome { λ r. ⌜ outcomeOf r ≡ packLeaves n (now (cells .entry)) (now (tags .entry)) (now (grades .entry)) (now (table .entry)) .outcome ⌝ }
+    ensures table { λ _. ⌜ now (table .exit) ≡ packLeaves n (now (cells .entry)) (now (tags .entry)) (now (grades .entry)) (now (table .entry)) .table ⌝ }
 {
     if table.len() != 32 * tags.len() {
         return Outcome::Refused(11, 0);
     }
-    let rest = fragments_fault(n, cells, tags);
+    let rest = fragments_fault(n, cells, tags, grades);
     if is_refusal(rest) {
         return rest;
     }
-    fill_table(n, cells, tags, table);
+    fill_table(n, cells, tags, grades, table);
     rest
 }
 
-// Writes the record of each fragment from its tag and its cells; a refusal writes nothing.
-pub fn pack(n: usize, cells: &[u8], tags: &[u32], table: &mut [u8]) -> Outcome
-    ensures outcome { λ r. ⌜ outcomeOf r ≡ packLeaves n (now (cells .entry)) (now (tags .entry)) (now (table .entry)) .outcome ⌝ }
-    ensures table { λ _. ⌜ now (table .exit) ≡ packLeaves n (now (cells .entry)) (now (tags .entry)) (now (table .entry)) .table ⌝ }
+// Writes the record of each fragment from its tag, its grade and its cells; a refusal writes nothing.
+pub fn pack(n: usize, cells: &[u8], tags: &[u32], grades: &[u8], table: &mut [u8]) -> Outcome
+    ensures outcome { λ r. ⌜ outcomeOf r ≡ packLeaves n (now (cells .entry)) (now (tags .entry)) (now (grades .entry)) (now (table .entry)) .outcome ⌝ }
+    ensures table { λ _. ⌜ now (table .exit) ≡ packLeaves n (now (cells .entry)) (now (tags .entry)) (now (grades .entry)) (now (table .entry)) .table ⌝ }
 {
-    let sizes = pack_size_fault(n, cells, tags);
+    let sizes = pack_size_fault(n, cells, tags, grades);
     match sizes {
         Outcome::Refused(number, place) => Outcome::Refused(number, place),
-        Outcome::Accepted(_) => pack_sized(n, cells, tags, table),
+        Outcome::Accepted(_) => pack_sized(n, cells, tags, grades, table),
     }
 }

@@ -1,13 +1,14 @@
-// Unpack: a table's records to cells and tags.
+// Unpack: a table's records to cells, tags and grades.
 ghost use mathlib.Core.Path.{_≡_};
 ghost use Prim.Native.Nat.{_*_};
 ghost use lib.ListN.{length};
-ghost use Rattle.records.specs.Table.{fragments, unpackedCells, unpackedTags};
+ghost use Rattle.records.specs.Table.{fragments, unpackedCells, unpackedTags, unpackedGrades};
 ghost use Rattle.records.specs.Outcome.{outcomeOf};
 ghost use Rattle.conflicts.specs.Services.{unpackLeaves};
 ghost use Rattle.records.specs.Algorithm.Kept.{SizesKept};
 use records::Outcome;
 use records::fill_row;
+use records::grade;
 use records::record_at;
 use records::records_fault;
 use records::size_fault;
@@ -40,17 +41,40 @@ fn fill_tags(table: &[u8], tags: &mut [u32])
     }
 }
 
+// Writes the m grades.
+fn fill_grades(table: &[u8], grades: &mut [u8])
+    requires { ⌜ length (now grades) ≡ fragments (now table) ⌝ }
+    ensures { λ _. ⌜ now (grades .exit) ≡ unpackedGrades (now (table .entry)) ⌝ }
+{
+    let mut i = 0;
+    while i < grades.len() {
+        grades[i] = grade(record_at(table, i));
+        i += 1;
+    }
+}
+
 // Unpack once the sizes are kept: the outputs' lengths, then the records.
-fn unpack_sized(n: usize, m: usize, table: &[u8], cells: &mut [u8], tags: &mut [u32]) -> Outcome
+fn unpack_sized(
+    n: usize,
+    m: usize,
+    table: &[u8],
+    cells: &mut [u8],
+    tags: &mut [u32],
+    grades: &mut [u8],
+) -> Outcome
     requires { ⌜ SizesKept n m (now table) ⌝ }
-    ensures outcome { λ r. ⌜ outcomeOf r ≡ unpackLeaves n (now (table .entry)) (now (cells .entry)) (now (tags .entry)) .outcome ⌝ }
-    ensures cells { λ _. ⌜ now (cells .exit) ≡ unpackLeaves n (now (table .entry)) (now (cells .entry)) (now (tags .entry)) .cells ⌝ }
-    ensures tags { λ _. ⌜ now (tags .exit) ≡ unpackLeaves n (now (table .entry)) (now (cells .entry)) (now (tags .entry)) .tags ⌝ }
+    ensures outcome { λ r. ⌜ outcomeOf r ≡ unpackLeaves n (now (table .entry)) (now (cells .entry)) (now (tags .entry)) (now (grades .entry)) .outcome ⌝ }
+    ensures cells { λ _. ⌜ now (cells .exit) ≡ unpackLeaves n (now (table .entry)) (now (cells .entry)) (now (tags .entry)) (now (grades .entry)) .cells ⌝ }
+    ensures tags { λ _. ⌜ now (tags .exit) ≡ unpackLeaves n (now (table .entry)) (now (cells .entry)) (now (tags .entry)) (now (grades .entry)) .tags ⌝ }
+    ensures grades { λ _. ⌜ now (grades .exit) ≡ unpackLeaves n (now (table .entry)) (now (cells .entry)) (now (tags .entry)) (now (grades .entry)) .grades ⌝ }
 {
     if cells.len() != m * n {
         return Outcome::Refused(11, 0);
     }
     if tags.len() != m {
+        return Outcome::Refused(11, 0);
+    }
+    if grades.len() != m {
         return Outcome::Refused(11, 0);
     }
     let rest = records_fault(n, table);
@@ -59,20 +83,28 @@ fn unpack_sized(n: usize, m: usize, table: &[u8], cells: &mut [u8], tags: &mut [
         Outcome::Accepted(_) => {
             fill_cells(n, table, cells);
             fill_tags(table, tags);
+            fill_grades(table, grades);
             Outcome::Accepted(m)
         }
     }
 }
 
-// Writes the m × n cells, one byte each by fragment and then column, and the m tags; a refusal writes nothing.
-pub fn unpack(n: usize, table: &[u8], cells: &mut [u8], tags: &mut [u32]) -> Outcome
-    ensures outcome { λ r. ⌜ outcomeOf r ≡ unpackLeaves n (now (table .entry)) (now (cells .entry)) (now (tags .entry)) .outcome ⌝ }
-    ensures cells { λ _. ⌜ now (cells .exit) ≡ unpackLeaves n (now (table .entry)) (now (cells .entry)) (now (tags .entry)) .cells ⌝ }
-    ensures tags { λ _. ⌜ now (tags .exit) ≡ unpackLeaves n (now (table .entry)) (now (cells .entry)) (now (tags .entry)) .tags ⌝ }
+// Writes the m × n cells, one byte each by fragment and then column, the m tags and the m grades; a refusal writes nothing.
+pub fn unpack(
+    n: usize,
+    table: &[u8],
+    cells: &mut [u8],
+    tags: &mut [u32],
+    grades: &mut [u8],
+) -> Outcome
+    ensures outcome { λ r. ⌜ outcomeOf r ≡ unpackLeaves n (now (table .entry)) (now (cells .entry)) (now (tags .entry)) (now (grades .entry)) .outcome ⌝ }
+    ensures cells { λ _. ⌜ now (cells .exit) ≡ unpackLeaves n (now (table .entry)) (now (cells .entry)) (now (tags .entry)) (now (grades .entry)) .cells ⌝ }
+    ensures tags { λ _. ⌜ now (tags .exit) ≡ unpackLeaves n (now (table .entry)) (now (cells .entry)) (now (tags .entry)) (now (grades .entry)) .tags ⌝ }
+    ensures grades { λ _. ⌜ now (grades .exit) ≡ unpackLeaves n (now (table .entry)) (now (cells .entry)) (now (tags .entry)) (now (grades .entry)) .grades ⌝ }
 {
     let sizes = size_fault(n, table);
     match sizes {
         Outcome::Refused(number, place) => Outcome::Refused(number, place),
-        Outcome::Accepted(m) => unpack_sized(n, m, table, cells, tags),
+        Outcome::Accepted(m) => unpack_sized(n, m, table, cells, tags, grades),
     }
 }

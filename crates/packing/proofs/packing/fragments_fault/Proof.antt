@@ -15,17 +15,17 @@ use Rattle.packing.proofs.packing.fragments_fault.Statement.{statement}
 use Rattle.packing.proofs.packing.fragments_fault.Tie as tie
 
 abbrev Inv-loop : tie.InvT-loop
-Inv-loop n cells tags m last₀ i₀ last i =
+Inv-loop n cells tags grades m last₀ i₀ last i =
     (m ≡ length tags)
     × (i ≤ m)
     × (0 < i → last ≡ packedStart n cells (i - 1))
-    × (decide (fragmentsRules n cells tags) (accepted (length tags)) ≡ fromRow (fragmentRules n cells tags) (accepted (length tags)) i m)
+    × (decide (fragmentsRules n cells tags grades) (accepted (length tags)) ≡ fromRow (fragmentRules n cells tags grades) (accepted (length tags)) i m)
 
 one-less : (i : ℕ) → i + 1 - 1 ≡ i
 one-less i = omega arith
 
 abbrev μ-loop : tie.MeasureT-loop
-μ-loop n cells tags m last₀ i₀ last i = m - i
+μ-loop n cells tags grades m last₀ i₀ last i = m - i
 
 loop-holds : tie.Need-loop-holds Inv-loop μ-loop
 unfolding fragmentsRules
@@ -33,14 +33,14 @@ loop-holds c = (refl, search needs, λ h. absurd (omega arith), rows-begin _ _ _
 
 start-of-requires : tie.Need-start-of-requires Inv-loop μ-loop
 start-of-requires c κs =
-    let sized = c .before .before .before .before .pre in
+    let sized = c .before .before .before .before .before .pre in
     let few = pack-m sized in
     let e = c .before .loop .inv .0 in
     (pack-n sized, omega arith, pack-row sized (c .before .loop .i) (omega arith))
 
 fragment-fault-requires : tie.Need-fragment-fault-requires Inv-loop μ-loop
 fragment-fault-requires c κs =
-    let start = c .before .before .before .before .before in
+    let start = c .before .before .before .before .before .before in
     (start .pre, (search needs, record { here = c .start-of .ensures; before = c .before .before .loop .inv .2 }))
 
 returns : tie.Need-returns Inv-loop μ-loop

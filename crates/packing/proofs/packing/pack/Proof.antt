@@ -12,7 +12,7 @@ pack-sized-requires : tie.Need-pack-sized-requires
 pack-sized-requires c κs = record { kept = decide-accepted _ _ _ _ (sym (c .before .before .before .pack-size-fault .ensures) ∙ ap outcomeOf (c .before .enum-told .given .1)) }
 
 returns : tie.Need-returns
-returns c = pack-refuses _ _ _ _ _ _ (pack-sizes _ _ _ _ _ _ (sym (c .before .before .before .pack-size-fault .ensures) ∙ ap outcomeOf (c .before .sizes .given .1)))
+returns c = pack-refuses _ _ _ _ _ _ _ (pack-sizes _ _ _ _ _ _ _ (sym (c .before .before .before .pack-size-fault .ensures) ∙ ap outcomeOf (c .before .sizes .given .1)))
 
 returns-2 : tie.Need-returns-2
 returns-2 c = c .before .before .pack-sized .ensures
