@@ -24,7 +24,7 @@ use Rattle.conflicts.specs.Grid.{Grid, gridOf, coverage}
 use Rattle.conflicts.specs.Sides.{errorFree}
 use Rattle.conflicts.specs.Removal.{snpKeepMarks, fragmentKeepMarks}
 use Rattle.conflicts.specs.Corrections.{changedCells, cellCount, differs}
-use Rattle.conflicts.specs.Services.{workRules, lengthRule, depthRules, packSizeRules, fragmentRules, unpackRules, packRules, checkRules, conflictCountsRules, removalRules, correctionRules, unpackLeaves, packLeaves, findLeaves, checkLeaves, conflictCountsLeaves, snpRemovalLeaves, fragmentRemovalLeaves, correctionsLeaves, lentStages, correctionStages}
+use Rattle.conflicts.specs.Services.{workRules, lengthRule, depthRules, packSizeRules, ungradedRules, fragmentRules, unpackRules, packRules, checkRules, conflictCountsRules, removalRules, correctionRules, unpackLeaves, packLeaves, findLeaves, checkLeaves, conflictCountsLeaves, snpRemovalLeaves, fragmentRemovalLeaves, correctionsLeaves, lentStages, correctionStages}
 use Rattle.conflicts.specs.Host.{hostNumber, hostRead, HostFits}
 use Rattle.conflicts.proofs.Minimality.{snp-in, fragments-in}
 use Rattle.packing.proofs.SizeLaws.{pack-m}
@@ -157,13 +157,13 @@ module _ {base : ℕ} (wide : 128 < base) where
       go : (n : ℕ) → n ≤ 128 → Named base (tab n (λ c. rule 12 c (8 <? coverage g c)))
       go n h r m = let b = tab-at _ n m in subst (λ (q : Rule). (1 ≤ q .number) × (q .place < base)) (sym (b .2)) (omega arith, let l = b .1 in omega arith)
 
-  pack-sizes-named : (n : ℕ) (cells tags : List ℕ) → Named base (packSizeRules n cells tags)
+  pack-sizes-named : (n : ℕ) (cells tags grades : List ℕ) → Named base (packSizeRules n cells tags grades)
   unfolding packSizeRules
-  pack-sizes-named n cells tags = one-more (omega arith) at-0 (one-more (omega arith) at-0 (one-more (omega arith) at-0 none-named))
+  pack-sizes-named n cells tags grades = one-more (omega arith) at-0 (one-more (omega arith) at-0 (one-more (omega arith) at-0 none-named))
 
-  fragment-named : (n : ℕ) (cells tags : List ℕ) (i : ℕ) → i < base → Named base (fragmentRules n cells tags i)
-  unfolding fragmentRules
-  fragment-named n cells tags i h = one-more (omega arith) h (one-more (omega arith) h (one-more (omega arith) h (earlier-named _ _ i h)))
+  fragment-named : (n : ℕ) (cells tags grades : List ℕ) (i : ℕ) → i < base → Named base (fragmentRules n cells tags grades i)
+  unfolding fragmentRules ungradedRules
+  fragment-named n cells tags grades i h = one-more (omega arith) h (one-more (omega arith) h (one-more (omega arith) h (one-more (omega arith) h (earlier-named _ _ i h))))
 
   -- S's and F's, of any count
   removal-fits : (n : ℕ) (table answer work : List ℕ) (count : ℕ) → (n ≤ 128 → fragments table ≤ 128 → count < base) → HostFits base (decide (removalRules n table answer work) (accepted count))
@@ -189,16 +189,16 @@ changed-le g h = go (g .m)
 wide-host : 128 < 4294967296
 wide-host = omega arith
 
-pub unpack-fits : (n : ℕ) (table cells tags : List ℕ) → HostFits 4294967296 (unpackLeaves n table cells tags .outcome)
+pub unpack-fits : (n : ℕ) (table cells tags grades : List ℕ) → HostFits 4294967296 (unpackLeaves n table cells tags grades .outcome)
 unfolding unpackLeaves unpackRules
-unpack-fits n table cells tags = sized-fits wide-host n table _ _ λ hn hm.
-    (stage-more _ _ (length-named wide-host cells _ _ (length-named wide-host tags _ _ none-named)) (records-named wide-host n table hm), omega arith)
+unpack-fits n table cells tags grades = sized-fits wide-host n table _ _ λ hn hm.
+    (stage-more _ _ (length-named wide-host cells _ _ (length-named wide-host tags _ _ (length-named wide-host grades _ _ none-named))) (records-named wide-host n table hm), omega arith)
 
-pub pack-fits : (n : ℕ) (cells tags table : List ℕ) → HostFits 4294967296 (packLeaves n cells tags table .outcome)
+pub pack-fits : (n : ℕ) (cells tags grades table : List ℕ) → HostFits 4294967296 (packLeaves n cells tags grades table .outcome)
 unfolding packLeaves packRules
-pack-fits n cells tags table = after-fits _ _ _ (omega arith) (pack-sizes-named wide-host n cells tags) λ e.
-    let few = pack-m (record { kept = decide-accepted (packSizeRules n cells tags) 0 0 _ e }) in
-    decide-fits _ _ (stage-more _ _ (length-named wide-host table _ _ none-named) (rows-named _ _ (λ i h. fragment-named wide-host n cells tags i (omega arith)))) (omega arith)
+pack-fits n cells tags grades table = after-fits _ _ _ (omega arith) (pack-sizes-named wide-host n cells tags grades) λ e.
+    let few = pack-m (record { kept = decide-accepted (packSizeRules n cells tags grades) 0 0 _ e }) in
+    decide-fits _ _ (stage-more _ _ (length-named wide-host table _ _ none-named) (rows-named _ _ (λ i h. fragment-named wide-host n cells tags grades i (omega arith)))) (omega arith)
 
 pub check-fits : (n : ℕ) (table answer : List ℕ) → HostFits 1000 (checkLeaves n table answer .outcome)
 unfolding checkLeaves checkRules

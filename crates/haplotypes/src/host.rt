@@ -33,23 +33,31 @@ pub extern "C" fn haplotypes_unpack(
     table: &[u8],
     cells: &mut [u8],
     tags: &mut [u32],
+    grades: &mut [u8],
 ) -> u64
-    ensures number { λ r. ⌜ r ≡ hostOutcome (unpackLeaves n (now (table .entry)) (now (cells .entry)) (now (tags .entry)) .outcome) ⌝ }
-    ensures read { λ r. ⌜ hostRead 4294967296 r ≡ unpackLeaves n (now (table .entry)) (now (cells .entry)) (now (tags .entry)) .outcome ⌝ }
-    ensures cells { λ _. ⌜ now (cells .exit) ≡ unpackLeaves n (now (table .entry)) (now (cells .entry)) (now (tags .entry)) .cells ⌝ }
-    ensures tags { λ _. ⌜ now (tags .exit) ≡ unpackLeaves n (now (table .entry)) (now (cells .entry)) (now (tags .entry)) .tags ⌝ }
+    ensures number { λ r. ⌜ r ≡ hostOutcome (unpackLeaves n (now (table .entry)) (now (cells .entry)) (now (tags .entry)) (now (grades .entry)) .outcome) ⌝ }
+    ensures read { λ r. ⌜ hostRead 4294967296 r ≡ unpackLeaves n (now (table .entry)) (now (cells .entry)) (now (tags .entry)) (now (grades .entry)) .outcome ⌝ }
+    ensures cells { λ _. ⌜ now (cells .exit) ≡ unpackLeaves n (now (table .entry)) (now (cells .entry)) (now (tags .entry)) (now (grades .entry)) .cells ⌝ }
+    ensures tags { λ _. ⌜ now (tags .exit) ≡ unpackLeaves n (now (table .entry)) (now (cells .entry)) (now (tags .entry)) (now (grades .entry)) .tags ⌝ }
+    ensures grades { λ _. ⌜ now (grades .exit) ≡ unpackLeaves n (now (table .entry)) (now (cells .entry)) (now (tags .entry)) (now (grades .entry)) .grades ⌝ }
 {
-    host_number(4294967296, unpack(n, table, cells, tags))
+    host_number(4294967296, unpack(n, table, cells, tags, grades))
 }
 
 // Pack: m, or a refusal.
 #[no_mangle]
-pub extern "C" fn haplotypes_pack(n: usize, cells: &[u8], tags: &[u32], table: &mut [u8]) -> u64
-    ensures number { λ r. ⌜ r ≡ hostOutcome (packLeaves n (now (cells .entry)) (now (tags .entry)) (now (table .entry)) .outcome) ⌝ }
-    ensures read { λ r. ⌜ hostRead 4294967296 r ≡ packLeaves n (now (cells .entry)) (now (tags .entry)) (now (table .entry)) .outcome ⌝ }
-    ensures table { λ _. ⌜ now (table .exit) ≡ packLeaves n (now (cells .entry)) (now (tags .entry)) (now (table .entry)) .table ⌝ }
+pub extern "C" fn haplotypes_pack(
+    n: usize,
+    cells: &[u8],
+    tags: &[u32],
+    grades: &[u8],
+    table: &mut [u8],
+) -> u64
+    ensures number { λ r. ⌜ r ≡ hostOutcome (packLeaves n (now (cells .entry)) (now (tags .entry)) (now (grades .entry)) (now (table .entry)) .outcome) ⌝ }
+    ensures read { λ r. ⌜ hostRead 4294967296 r ≡ packLeaves n (now (cells .entry)) (now (tags .entry)) (now (grades .entry)) (now (table .entry)) .outcome ⌝ }
+    ensures table { λ _. ⌜ now (table .exit) ≡ packLeaves n (now (cells .entry)) (now (tags .entry)) (now (grades .entry)) (now (table .entry)) .table ⌝ }
 {
-    host_number(4294967296, pack(n, cells, tags, table))
+    host_number(4294967296, pack(n, cells, tags, grades, table))
 }
 
 // Find: the byte of the table at which its part starts.

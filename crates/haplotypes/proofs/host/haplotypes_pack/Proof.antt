@@ -10,13 +10,13 @@ use Rattle.haplotypes.proofs.host.haplotypes_pack.Tie as tie
 
 host-number-requires : tie.Need-host-number-requires
 host-number-requires c κs =
-    (omega arith, subst (HostFits 4294967296) (sym (c .before .before .pack .ensures .0)) (pack-fits _ _ _ _))
+    (omega arith, subst (HostFits 4294967296) (sym (c .before .before .pack .ensures .0)) (pack-fits _ _ _ _ _))
 
 returns : tie.Need-returns
 returns c =
     let e = c .before .before .before .pack .ensures in
     let number = c .host-number .ensures ∙ ap (hostNumber 4294967296) (e .0) in
-    (number, (host-read 4294967296 (pack-fits _ _ _ _) number, e .1))
+    (number, (host-read 4294967296 (pack-fits _ _ _ _ _) number, e .1))
 
 pub haplotypes-pack-spec : {M : Type 1} → statement M
 haplotypes-pack-spec =

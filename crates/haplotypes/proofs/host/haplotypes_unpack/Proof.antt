@@ -9,13 +9,15 @@ use Rattle.haplotypes.proofs.host.haplotypes_unpack.Statement.{statemen
 use Rattle.haplotypes.proofs.host.haplotypes_unpack.Tie as tie
 
 host-number-requires : tie.Need-host-number-requires
-host-number-requires c κs = (omega arith, subst (HostFits 4294967296) (sym (c .before .before .before .before .unpack .ensures .0)) (unpack-fits _ _ _ _))
+host-number-requires c κs =
+    let unpack = c .before .before .before .before .before .before .unpack in
+    (omega arith, subst (HostFits 4294967296) (sym (unpack .ensures .0)) (unpack-fits _ _ _ _ _))
 
 returns : tie.Need-returns
 returns c =
-    let e = c .before .before .before .before .before .unpack .ensures in
+    let e = c .before .before .before .before .before .before .before .unpack .ensures in
     let number = c .host-number .ensures ∙ ap (hostNumber 4294967296) (e .0) in
-    (number, (host-read 4294967296 (unpack-fits _ _ _ _) number, (e .1 .0, e .1 .1)))
+    (number, (host-read 4294967296 (unpack-fits _ _ _ _ _) number, e .1))
 
 pub haplotypes-unpack-spec : {M : Type 1} → statement M
 haplotypes-unpack-spec =
@@ -23,6 +25,7 @@ haplotypes-unpack-spec =
     (tie.spec
     (λ c κs. search needs)
     host-number-requires
+    (λ c. search needs)
     (λ c. search needs)
     (λ c. search needs)
     returns)
