@@ -21,5 +21,6 @@ pub mod CorrectionsMinimality
 pub mod TurningLaws
 pub mod DeepLaws
 pub mod AcceptedServices
+pub mod UngradedLaws
 pub mod TrialCalls
 pub mod Trials

@@ -13,4 +13,5 @@ pub mod Minimality
 pub mod Turning
 pub mod Services
 pub mod Served
+pub mod Ungraded
 pub mod Host
