@@ -10,7 +10,8 @@ use lib.Dec.{T}
 use lib.ListN.{length, getD, take, drop, replicate, length-append, length-replicate, List·getD-append, drop-of-length-le}
 use lib.Seq.{getD-take, getD-drop, getD-append-add, length-take-le}
 use Rattle.below.specs.Below.{if_then_else_, _<?_, _≤?_, _and_, isnt, sumBelow, tab, concat}
-use Rattle.records.specs.Record.{littleEndian, startOf, spanOf, isCall, cellOf, codeAt}
+use Rattle.records.specs.Record.{littleEndian, startOf, spanOf, gradeOf, isCall, cellOf, codeAt}
+use Rattle.records.specs.Grades.{weightOf}
 use Rattle.records.specs.Table.{fragments, recordAt}
 use Rattle.records.specs.Writing.{cellBytes}
 use Rattle.below.proofs.BelowLaws.{both, decided, isnt-isnt, not-both, if-ind, if-true, if-false, ==-eq, <?-lt, lt-<?, sum-ext, le-isnt}
@@ -21,7 +22,7 @@ use Rattle.below.proofs.RowLaws.{tab-ext, length-laid-out, row-laid}
 use Rattle.records.proofs.TableLaws.{fragments-of, length-whole, recordAt-row, length-recordAt, recordAt-bytes}
 use Rattle.conflicts.specs.Grid.{Grid, gridOf, withCells}
 use Rattle.conflicts.specs.Corrections.{leastCostSides, correctedCell, corrected, differs}
-use Rattle.conflicts.specs.Answer.{correctedGrid, rewrittenCode, rewritten, correctedTable}
+use Rattle.conflicts.specs.Answer.{correctedGrid, rewrittenCode, rewritten, recordsWith, correctedTable}
 use Rattle.conflicts.specs.Minimality.{OthersKept}
 use Rattle.conflicts.proofs.CorrectionLaws.{letter-call}
 
@@ -183,11 +184,11 @@ module _ (n : ℕ) (table : List ℕ) where
   record-length i h = rewritten-length (recordAt table i) (row i) (length-recordAt table i h)
 
   pub length-corrected : length (correctedTable n table) ≡ fragments table * 32
-  unfolding correctedTable
+  unfolding correctedTable recordsWith
   length-corrected = length-rows 32 (fragments table) (λ i. rewritten (recordAt table i) (row i)) record-length
 
   pub record-corrected : (i : ℕ) → i < fragments table → recordAt (correctedTable n table) i ≡ rewritten (recordAt table i) (row i)
-  unfolding correctedTable
+  unfolding correctedTable recordsWith
   record-corrected i h = recordAt-row (correctedTable n table) i ∙ row-at 32 (fragments table) (λ i. rewritten (recordAt table i) (row i)) record-length i h
 
   row-small : (i c : ℕ) → row i c < 4
@@ -205,20 +206,34 @@ module _ (n : ℕ) (table : List ℕ) where
 
   module _ (whole : length table % 32 ≡ 0) where
     -- past the last record there is none
-    nothing-past : (t : List ℕ) → length t ≡ fragments table * 32 → (i c : ℕ) → fragments table ≤ i → codeAt (recordAt t i) c ≡ 0
-    unfolding recordAt startOf spanOf littleEndian
-    nothing-past t e i c h =
-        ap (λ (l : List ℕ). codeAt (take 32 l) c) (drop-of-length-le t {i = 32 * i} (omega arith)) ∙ codeAt-out [] c (λ k. omega arith)
+    nothing-past : (t : List ℕ) → length t ≡ fragments table * 32 → (i : ℕ) → fragments table ≤ i → recordAt t i ≡ []
+    unfolding recordAt
+    nothing-past t e i h = ap (take 32) (drop-of-length-le t {i = 32 * i} (omega arith))
 
-    -- C's table holds C's matrix
+    code-past : (t : List ℕ) → length t ≡ fragments table * 32 → (i c : ℕ) → fragments table ≤ i → codeAt (recordAt t i) c ≡ 0
+    unfolding startOf spanOf littleEndian
+    code-past t e i c h = ap (λ (r : List ℕ). codeAt r c) (nothing-past t e i h) ∙ codeAt-out [] c (λ k. omega arith)
+
+    grade-corrected : (i : ℕ) → gradeOf (recordAt (correctedTable n table) i) ≡ gradeOf (recordAt table i)
+    unfolding gradeOf
+    grade-corrected i = elim (decLe (fragments table) i) [
+      | yes l ↦ ap gradeOf (nothing-past (correctedTable n table) length-corrected i l ∙ sym (nothing-past table (length-whole table whole) i l))
+      | no l ↦ ap gradeOf (record-corrected i (omega arith)) ∙ rewritten-header (recordAt table i) (row i) (length-recordAt table i (omega arith)) 7 (omega arith)
+    ]
+
+    cell-corrected : (i c : ℕ) → codeAt (recordAt (correctedTable n table) i) c ≡ row i c
+    cell-corrected i c = elim (decLe (fragments table) i) [
+      | yes l ↦ code-past (correctedTable n table) length-corrected i c l ∙ sym (row-hole i c (code-past table (length-whole table whole) i c l))
+      | no l ↦ code-corrected i (omega arith) c
+    ]
+
+    -- C's table holds C's matrix, with the weights as they were
     pub grid-corrected : gridOf n (correctedTable n table) ≡ correctedGrid (gridOf n table)
     unfolding gridOf correctedGrid corrected withCells
     grid-corrected =
-        ap₂ (λ (m : ℕ) (cell : ℕ → ℕ → ℕ). record { m = m; n = n; cell = cell }) (fragments-of (correctedTable n table) (fragments table) length-corrected)
-        (fun-ext λ i. fun-ext λ c. elim (decLe (fragments table) i) [
-          | yes l ↦ nothing-past (correctedTable n table) length-corrected i c l ∙ sym (row-hole i c (nothing-past table (length-whole table whole) i c l))
-          | no l ↦ code-corrected i (omega arith) c
-        ])
+        ap₂ (λ (m : ℕ) (cell : ℕ → ℕ → ℕ). record { m = m; n = n; cell = cell; weight = λ i. weightOf (gradeOf (recordAt (correctedTable n table) i)) })
+        (fragments-of (correctedTable n table) (fragments table) length-corrected) (fun-ext λ i. fun-ext λ c. cell-corrected i c)
+        ∙ ap (λ (grade : ℕ → ℕ). record { m = fragments table; n = n; cell = row; weight = λ i. weightOf (grade i) }) (fun-ext grade-corrected)
 
     -- and nothing else of it has changed
     pub others-kept : ((j : ℕ) → j < length table → getD table j 0 < 256) → OthersKept table (correctedTable n table)

@@ -4,18 +4,19 @@ use mathlib.Core.Path.{_≡_, refl, sym, ap, subst, _∙_}
 use mathlib.Core.Logic.{_⊎_, inl, inr}
 use mathlib.Core.Bool.{Bool, true, false}
 use mathlib.Core.List.{List}
-use Prim.Native.Nat.{ℕ, zero, suc, _+_, _-_, _≤_, _<_, min}
+use Prim.Native.Nat.{ℕ, zero, suc, _+_, _-_, _≤_, _<_, min, zero-le}
+use native.Mathlib.Nat.{le-refl}
 use native.Mathlib.Decide.{ℕ-discrete}
 use native.Mathlib.Omega.{arith}
 use lib.Dec.{T}
 use lib.ListN.{getD}
 use borrow.Author.Tests.{eq-eqb, ne-eqb}
-use Rattle.below.specs.Below.{nth, bit, if_then_else_, _==_, _<?_, _and_, _or_, isnt, anyBelow, sumBelow, countBelow}
+use Rattle.below.specs.Below.{nth, if_then_else_, _==_, _<?_, _and_, _or_, isnt, anyBelow, sumBelow}
 use Rattle.records.specs.Record.{isCall}
-use Rattle.below.proofs.BelowLaws.{both, left-of, right-of, or-left, or-right, or-cases, decided, T-isnt, isnt-isnt, same-test, if-ind, if-true, if-false, ==-eq, ==-refl, eq-==, isnt-==, ne-isnt, <?-lt, isnt-<?, anyBelow-at, anyBelow-of, sum-le, sum-ext, sum-swap, count-ext, count-le}
+use Rattle.below.proofs.BelowLaws.{both, left-of, right-of, or-left, or-right, or-cases, decided, T-isnt, isnt-isnt, same-test, if-ind, if-true, if-false, ==-eq, ==-refl, eq-==, isnt-==, ne-isnt, <?-lt, isnt-<?, anyBelow-at, anyBelow-of, sum-le, sum-ext, sum-swap}
 use Rattle.records.proofs.ExtentLaws.{call-range, call-of}
 use Rattle.conflicts.specs.Grid.{Grid, withCells, callsConflict, conflictOn}
-use Rattle.conflicts.specs.Corrections.{correctionCost, sideCount, sidePrice, majorityLetter, columnCost, cost, sideLetter, correctedCell, corrected, differs, cellCount, changedCells, turned}
+use Rattle.conflicts.specs.Corrections.{correctionCost, letterWeight, sidePrice, majorityLetter, columnCost, cost, sideLetter, correctedCell, corrected, differs, cellTotal, changedTotal, turned}
 use Rattle.conflicts.proofs.GridLaws.{conflict-self}
 
 -- ---- codes
@@ -80,83 +81,81 @@ unfolding _and_
 and-ext true p q f = f tt
 and-ext false p q f = refl
 
-if-bit : (b : Bool) → (if b then 1 else 0) ≡ bit b
-if-bit true = refl
-if-bit false = refl
+-- what a number weighs where a test passes is at most what it weighs where another passes too
+if-le : (p q : Bool) (w : ℕ) → (T p → T q) → (if p then w else 0) ≤ (if q then w else 0)
+if-le true true w f = le-refl w
+if-le true false w f = absurd (f tt)
+if-le false q w f = zero-le
 
-is-one : (x y : ℕ) (b : Bool) → x ≡ y → bit (x == y and b) ≡ bit b
+is-one : (x y w : ℕ) (b : Bool) → x ≡ y → (if x == y and b then w else 0) ≡ (if b then w else 0)
 unfolding _and_ _==_
-is-one x y b e = rw (eq-eqb x y e)
+is-one x y w b e = rw (eq-eqb x y e)
 
-is-other : (x y : ℕ) (b : Bool) → (x ≡ y → ⊥) → bit (x == y and b) ≡ 0
+is-other : (x y w : ℕ) (b : Bool) → (x ≡ y → ⊥) → _≡_ {A = ℕ} (if x == y and b then w else 0) 0
 unfolding _and_ _==_
-is-other x y b f = rw (ne-eqb x y f)
+is-other x y w b f = rw (ne-eqb x y f)
 
 -- a side above k is none of 1 to k
-above : (k x : ℕ) (b : Bool) → k < x → sumBelow k (λ s. bit (x == suc s and b)) ≡ 0
+above : (k x w : ℕ) (b : Bool) → k < x → sumBelow k (λ s. if x == suc s and b then w else 0) ≡ 0
 unfolding sumBelow
-above zero x b h = refl
-above (suc k) x b h =
-    let rest = above k x b (omega arith) in
-    let last = is-other x (suc k) b (λ e. omega arith) in
+above zero x w b h = refl
+above (suc k) x w b h =
+    let rest = above k x w b (omega arith) in
+    let last = is-other x (suc k) w b (λ e. omega arith) in
     omega arith
 
 -- a side from 1 to k is one of them, once
-once : (k x : ℕ) (b : Bool) → 1 ≤ x → x ≤ k → sumBelow k (λ s. bit (x == suc s and b)) ≡ bit b
+once : (k x w : ℕ) (b : Bool) → 1 ≤ x → x ≤ k → sumBelow k (λ s. if x == suc s and b then w else 0) ≡ (if b then w else 0)
 unfolding sumBelow
-once zero x b low high = absurd (omega arith)
-once (suc k) x b low high = go (once k x b low) (ℕ-discrete x (suc k))
+once zero x w b low high = absurd (omega arith)
+once (suc k) x w b low high = go (once k x w b low) (ℕ-discrete x (suc k))
   where
-    go : (x ≤ k → sumBelow k (λ s. bit (x == suc s and b)) ≡ bit b) → Dec (x ≡ suc k)
-        → sumBelow k (λ s. bit (x == suc s and b)) + bit (x == suc k and b) ≡ bit b
-    go rest (yes e) = let none = above k x b (omega arith) in let last = is-one x (suc k) b e in omega arith
-    go rest (no f) = let same = rest (omega arith) in let last = is-other x (suc k) b f in omega arith
+    go : (x ≤ k → sumBelow k (λ s. if x == suc s and b then w else 0) ≡ (if b then w else 0)) → Dec (x ≡ suc k)
+        → sumBelow k (λ s. if x == suc s and b then w else 0) + (if x == suc k and b then w else 0) ≡ (if b then w else 0)
+    go rest (yes e) = let none = above k x w b (omega arith) in let last = is-one x (suc k) w b e in omega arith
+    go rest (no f) = let same = rest (omega arith) in let last = is-other x (suc k) w b f in omega arith
 
 -- ---- the calls of a set on a side
 
--- how many cells of a set stand on side s at column c
-unfoldable pub setCount : Grid → List ℕ → (ℕ → ℕ → Bool) → ℕ → ℕ → ℕ
-setCount g sides set s c = countBelow (g .m) (λ i. getD sides i 0 == s and set i c)
+-- what the cells of a set on side s at column c come to
+unfoldable pub setTotal : Grid → List ℕ → (ℕ → ℕ → Bool) → ℕ → ℕ → ℕ
+setTotal g sides set s c = sumBelow (g .m) (λ i. if getD sides i 0 == s and set i c then correctionCost g i else 0)
 
 module _ (g : Grid) (sides : List ℕ) where
-  side-count : (s c letter : ℕ) → sideCount g (nth sides) s c letter ≡ countBelow (g .m) (λ i. getD sides i 0 == s and g .cell i c == letter)
-  unfolding sideCount correctionCost countBelow
-  side-count s c letter = sum-ext (g .m) _ _ λ i hi. if-bit (getD sides i 0 == s and g .cell i c == letter)
-
   -- every fragment is on one of k sides: a set's cells are those on the sides, column by column
   cells-by-side : (k : ℕ) → ((i : ℕ) → i < g .m → (1 ≤ getD sides i 0) × (getD sides i 0 ≤ k)) → (set : ℕ → ℕ → Bool)
-      → cellCount g set ≡ sumBelow (g .n) (λ c. sumBelow k (λ s. setCount g sides set (suc s) c))
-  unfolding cellCount countBelow setCount
+      → cellTotal g set ≡ sumBelow (g .n) (λ c. sumBelow k (λ s. setTotal g sides set (suc s) c))
+  unfolding cellTotal setTotal
   cells-by-side k on set =
-      sum-swap (g .m) (g .n) (λ i c. bit (set i c))
+      sum-swap (g .m) (g .n) (λ i c. if set i c then correctionCost g i else 0)
       ∙ sum-ext (g .n) _ _ λ c hc.
-      sum-ext (g .m) _ (λ i. sumBelow k (λ s. bit (getD sides i 0 == suc s and set i c))) (λ i hi. sym (once k (getD sides i 0) (set i c) (on i hi .0) (on i hi .1)))
-      ∙ sum-swap (g .m) k (λ i s. bit (getD sides i 0 == suc s and set i c))
+      sum-ext (g .m) _ (λ i. sumBelow k (λ s. if getD sides i 0 == suc s and set i c then correctionCost g i else 0))
+      (λ i hi. sym (once k (getD sides i 0) (correctionCost g i) (set i c) (on i hi .0) (on i hi .1)))
+      ∙ sum-swap (g .m) k (λ i s. if getD sides i 0 == suc s and set i c then correctionCost g i else 0)
 
   module _ (set : ℕ → ℕ → Bool) (s c : ℕ) where
     -- a letter that no fragment of the side has after the set is turned: each that had it is in the set
-    absent : (letter : ℕ) → ((i : ℕ) → i < g .m → getD sides i 0 ≡ s → turned g set .cell i c ≡ letter → ⊥) → sideCount g (nth sides) s c letter ≤ setCount g sides set s c
-    unfolding turned withCells setCount
+    absent : (letter : ℕ) → ((i : ℕ) → i < g .m → getD sides i 0 ≡ s → turned g set .cell i c ≡ letter → ⊥) → letterWeight g (nth sides) s c letter ≤ setTotal g sides set s c
+    unfolding turned withCells setTotal letterWeight
     absent letter away =
-        rw (side-count s c letter)
-        (count-le (g .m) _ _ λ i hi t.
+        sum-le (g .m) _ _ λ i hi. if-le (getD sides i 0 == s and g .cell i c == letter) (getD sides i 0 == s and set i c) (correctionCost g i) λ t.
         let was = ==-eq _ _ (right-of _ _ t) in
-        both _ _ (left-of _ _ t) (stays i hi (==-eq _ _ (left-of _ _ t)) was (decided (set i c))))
+        both _ _ (left-of _ _ t) (stays i hi (==-eq _ _ (left-of _ _ t)) was (decided (set i c)))
       where
         stays : (i : ℕ) → i < g .m → getD sides i 0 ≡ s → g .cell i c ≡ letter → T (set i c) ⊎ T (isnt (set i c)) → T (set i c)
         stays i hi on was (inl t) = t
         stays i hi on was (inr t) = absurd (away i hi on (if-false (set i c) (3 - g .cell i c) (g .cell i c) t ∙ was))
 
-    -- where the set, turned, leaves no conflict inside the side at the column, it has as many cells there as the price
+    -- where the set, turned, leaves no conflict inside the side at the column, its cells there come to at least the price
     pub price-bound : ((i j : ℕ) → i < g .m → j < g .m → getD sides i 0 ≡ s → getD sides j 0 ≡ s → T (conflictOn (turned g set) c i j) → ⊥)
-        → sidePrice (sideCount g (nth sides) s c 1) (sideCount g (nth sides) s c 2) ≤ setCount g sides set s c
+        → sidePrice (letterWeight g (nth sides) s c 1) (letterWeight g (nth sides) s c 2) ≤ setTotal g sides set s c
     unfolding sidePrice conflictOn callsConflict
     price-bound apart = go (decided (anyBelow (g .m) isA))
       where
         isA : ℕ → Bool
         isA i = getD sides i 0 == s and turned g set .cell i c == 1
 
-        go : T (anyBelow (g .m) isA) ⊎ T (isnt (anyBelow (g .m) isA)) → sidePrice (sideCount g (nth sides) s c 1) (sideCount g (nth sides) s c 2) ≤ setCount g sides set s c
+        go : T (anyBelow (g .m) isA) ⊎ T (isnt (anyBelow (g .m) isA)) → sidePrice (letterWeight g (nth sides) s c 1) (letterWeight g (nth sides) s c 2) ≤ setTotal g sides set s c
         go (inr away) =
             let n = absent 1 (λ i hi on a. T-isnt _ away (anyBelow-of (g .m) isA i hi (both _ _ (rw on (==-refl s)) (rw a (==-refl 1))))) in
             omega arith
@@ -169,45 +168,44 @@ module _ (g : Grid) (sides : List ℕ) where
   pub letter-call : (s c : ℕ) → T (isCall (sideLetter g sides s c))
   unfolding sideLetter majorityLetter isCall
   letter-call s c =
-      if-ind (λ x. T (x == 1 or x == 2)) (sideCount g (nth sides) s c 1 <? sideCount g (nth sides) s c 2)
+      if-ind (λ x. T (x == 1 or x == 2)) (letterWeight g (nth sides) s c 1 <? letterWeight g (nth sides) s c 2)
       (λ t. or-right (2 == 1) _ (==-refl 2)) (λ t. or-left _ (1 == 2) (==-refl 1))
 
   -- C's own changes on a side: the calls of the letter that it does not turn to
-  changed-count : (s c : ℕ) → setCount g sides (differs g (corrected g sides)) s c ≡ sideCount g (nth sides) s c (3 - sideLetter g sides s c)
-  unfolding setCount differs corrected withCells correctedCell
-  changed-count s c =
-      (count-ext (g .m) _ _ λ i hi. and-ext (getD sides i 0 == s) _ _ λ on.
+  changed-weight : (s c : ℕ) → setTotal g sides (differs g (corrected g sides)) s c ≡ letterWeight g (nth sides) s c (3 - sideLetter g sides s c)
+  unfolding setTotal letterWeight differs corrected withCells correctedCell
+  changed-weight s c =
+      sum-ext (g .m) _ _ λ i hi. ap (λ (b : Bool). if b then correctionCost g i else 0) (and-ext (getD sides i 0 == s) _ _ λ on.
       changes (g .cell i c) (sideLetter g sides (getD sides i 0) c) (letter-call (getD sides i 0) c)
       ∙ ap (λ (t : ℕ). g .cell i c == 3 - sideLetter g sides t c) (==-eq (getD sides i 0) s on))
-      ∙ sym (side-count s c (3 - sideLetter g sides s c))
 
-  pub price-exact : (s c : ℕ) → setCount g sides (differs g (corrected g sides)) s c ≡ sidePrice (sideCount g (nth sides) s c 1) (sideCount g (nth sides) s c 2)
+  pub price-exact : (s c : ℕ) → setTotal g sides (differs g (corrected g sides)) s c ≡ sidePrice (letterWeight g (nth sides) s c 1) (letterWeight g (nth sides) s c 2)
   unfolding sideLetter majorityLetter sidePrice
   price-exact s c =
-      changed-count s c
-      ∙ if-ind (λ letter. sideCount g (nth sides) s c (3 - letter) ≡ min a b) (a <? b) (λ t. let h = <?-lt a b t in omega arith) (λ t. let h = isnt-<? a b t in omega arith)
+      changed-weight s c
+      ∙ if-ind (λ letter. letterWeight g (nth sides) s c (3 - letter) ≡ min a b) (a <? b) (λ t. let h = <?-lt a b t in omega arith) (λ t. let h = isnt-<? a b t in omega arith)
     where
       a : ℕ
-      a = sideCount g (nth sides) s c 1
+      a = letterWeight g (nth sides) s c 1
 
       b : ℕ
-      b = sideCount g (nth sides) s c 2
+      b = letterWeight g (nth sides) s c 2
 
   -- ---- the whole matrix
 
   module _ (k : ℕ) (on : (i : ℕ) → i < g .m → (1 ≤ getD sides i 0) × (getD sides i 0 ≤ k)) where
-    -- a set of cells that, turned, leaves no conflict inside a side has at least as many cells as the side list costs
+    -- a set of cells that, turned, leaves no conflict inside a side comes to at least what the side list costs
     pub cost-bound : (set : ℕ → ℕ → Bool)
         → ((i j c : ℕ) → i < g .m → j < g .m → c < g .n → getD sides i 0 ≡ getD sides j 0 → T (conflictOn (turned g set) c i j) → ⊥)
-        → cost k g sides ≤ cellCount g set
+        → cost k g sides ≤ cellTotal g set
     unfolding cost columnCost
     cost-bound set apart =
         rw (cells-by-side k on set)
         (sum-le (g .n) _ _ λ c hc. sum-le k _ _ λ s hs. price-bound set (suc s) c λ i j hi hj a b. apart i j c hi hj hc (a ∙ sym b))
 
-    -- C's own changes are exactly as many
-    pub cost-exact : changedCells g (corrected g sides) ≡ cost k g sides
-    unfolding changedCells cost columnCost
+    -- C's own changes come to exactly that
+    pub cost-exact : changedTotal g (corrected g sides) ≡ cost k g sides
+    unfolding changedTotal cost columnCost
     cost-exact =
         cells-by-side k on (differs g (corrected g sides))
         ∙ sum-ext (g .n) _ _ λ c hc. sum-ext k _ _ λ s hs. price-exact (suc s) c

@@ -1,4 +1,4 @@
--- C hands back the fewest calls of all sets that make the table error-free; its number is at least S's and at least F's. No gaplessness is used.
+-- C hands back a set of calls of the least total among all that make the table error-free; its number is at least S's and at least F's. No gaplessness is used.
 -- Assumes nothing.
 use mathlib.Core.Path.{_≡_, refl, sym, ap, ap₂, subst, subst₂, _∙_}
 use mathlib.Core.Bool.{Bool}
@@ -8,7 +8,7 @@ use native.Mathlib.Nat.{le-trans, le-of-eq}
 use lib.Dec.{T, lit≤}
 use lib.ListN.{length, getD, replicate, getD-replicate}
 use Rattle.below.specs.Below.{isnt, tab}
-use Rattle.records.specs.Record.{startOf, spanOf, isCall}
+use Rattle.records.specs.Record.{gradeOf, isCall}
 use Rattle.records.specs.Table.{fragments, recordAt}
 use Rattle.records.specs.Outcome.{Verdict, accepted}
 use Rattle.below.proofs.BelowLaws.{if-true}
@@ -16,7 +16,7 @@ use Rattle.below.proofs.RowLaws.{tab-ext, tab-again}
 use Rattle.conflicts.specs.Choice.{zeros, keepAll}
 use Rattle.conflicts.specs.Grid.{Grid, gridOf, withCells}
 use Rattle.conflicts.specs.Removal.{snpKeepMarks, fragmentKeepMarks}
-use Rattle.conflicts.specs.Corrections.{cost, leastCostSides, sideLetter, correctedCell, corrected, differs, cellCount, changedCells, turned}
+use Rattle.conflicts.specs.Corrections.{cost, leastCostSides, sideLetter, correctedCell, corrected, differs, cellTotal, changedTotal, turned}
 use Rattle.conflicts.specs.Answer.{correctedGrid, correctionAnswer, correctedTable, keepMarkIn, sideIn, answerSize}
 use Rattle.conflicts.specs.Minimality.{CallsWork, Fewest, FirstOf, SidesCost, Corrected}
 use Rattle.conflicts.specs.Phased.{Phased}
@@ -31,6 +31,7 @@ use Rattle.conflicts.proofs.CorrectedTableLaws.{corrected-hole, grid-co
 use Rattle.records.specs.Rules.{sizeRules}
 use Rattle.records.proofs.RuleLaws.{accepted-stage, accepted-count}
 use Rattle.records.proofs.AcceptedLaws.{whole-records}
+use Rattle.records.proofs.GradeLaws.{weight-range}
 
 -- ---- C's answer
 
@@ -82,8 +83,8 @@ module _ (g : Grid) where
       phased (correctedGrid g) (keepAll (g .n)) (leastCostSides 2 g) (all-length (g .n)) sides-length
       (lawful-of (correctedGrid g) (keepAll (g .n)) (leastCostSides 2 g) λ i j c hi hj hc on e kept clash. corrected-apart g (leastCostSides 2 g) i j c e clash)
 
-  -- as many cells change as the side list costs
-  pub changed-cost : changedCells g (correctedGrid g) ≡ cost 2 g (leastCostSides 2 g)
+  -- the cells that change come to what the side list costs
+  pub changed-cost : changedTotal g (correctedGrid g) ≡ cost 2 g (leastCostSides 2 g)
   unfolding correctedGrid
   changed-cost = cost-exact g (leastCostSides 2 g) 2 (least-on 2 g (lit≤ tt))
 
@@ -94,16 +95,16 @@ module _ (n : ℕ) (table : List ℕ) (whole : length table % 32 ≡ 0) where
   g = gridOf n table
 
   -- C's number is the cost of its side list
-  pub changed-number : changedCells (gridOf n table) (gridOf n (correctedTable n table)) ≡ cost 2 (gridOf n table) (leastCostSides 2 (gridOf n table))
+  pub changed-number : changedTotal (gridOf n table) (gridOf n (correctedTable n table)) ≡ cost 2 (gridOf n table) (leastCostSides 2 (gridOf n table))
   changed-number = rw (grid-corrected n table whole) (changed-cost g)
 
   -- what holds of C's matrix holds of the one that its table holds
   of-table : (P : Grid → Type 0) → P (correctedGrid (gridOf n table)) → P (gridOf n (correctedTable n table))
   of-table P p = subst P (sym (grid-corrected n table whole)) p
 
-  table-fewest : Fewest (CallsWork (gridOf n table)) (cellCount (gridOf n table)) (differs (gridOf n table) (gridOf n (correctedTable n table))) (cost 2 (gridOf n table) (leastCostSides 2 (gridOf n table)))
+  table-fewest : Fewest (CallsWork (gridOf n table)) (cellTotal (gridOf n table)) (differs (gridOf n table) (gridOf n (correctedTable n table))) (cost 2 (gridOf n table) (leastCostSides 2 (gridOf n table)))
   unfolding correctedGrid
-  table-fewest = of-table (λ h. Fewest (CallsWork g) (cellCount g) (differs g h) (cost 2 g (leastCostSides 2 g))) (corrections-fewest g)
+  table-fewest = of-table (λ h. Fewest (CallsWork g) (cellTotal g) (differs g h) (cost 2 g (leastCostSides 2 g))) (corrections-fewest g)
 
   table-turns : (i c : ℕ) → gridOf n (correctedTable n table) .cell i c ≡ turned (gridOf n table) (differs (gridOf n table) (gridOf n (correctedTable n table))) .cell i c
   unfolding correctedGrid
@@ -159,13 +160,14 @@ module _ (n : ℕ) (table answer output work : List ℕ) (k : ℕ) (e : correcti
 
 -- ---- C's number is at least S's and at least F's
 
-module _ (g : Grid) where
-  -- every set of calls that works has at least as many members as S removes columns, and as F removes fragments
-  pub snp-le-calls : (set : ℕ → ℕ → Bool) → CallsWork g set → zeros (snpKeepMarks g) ≤ cellCount g set
-  snp-le-calls set w = le-trans (snpRemoval g .fewest .bound (touchedColumn g set) (columns-touched g set w)) (columns-count g set)
+-- "no weight is under 1"
+module _ (g : Grid) (heavy : (i : ℕ) → i < g .m → 1 ≤ g .weight i) where
+  -- every set of calls that works comes to at least as much as S removes columns, and as F removes fragments
+  pub snp-le-calls : (set : ℕ → ℕ → Bool) → CallsWork g set → zeros (snpKeepMarks g) ≤ cellTotal g set
+  snp-le-calls set w = le-trans (snpRemoval g .fewest .bound (touchedColumn g set) (columns-touched g set w)) (columns-count g set heavy)
 
-  pub fragments-le-calls : (set : ℕ → ℕ → Bool) → CallsWork g set → zeros (fragmentKeepMarks g) ≤ cellCount g set
-  fragments-le-calls set w = le-trans (fragmentRemoval g .fewest .bound (touchedFragment g set) (fragments-touched g set w)) (fragments-count g set)
+  pub fragments-le-calls : (set : ℕ → ℕ → Bool) → CallsWork g set → zeros (fragmentKeepMarks g) ≤ cellTotal g set
+  fragments-le-calls set w = le-trans (fragmentRemoval g .fewest .bound (touchedFragment g set) (fragments-touched g set w)) (fragments-count g set heavy)
 
   pub snp-le-corrections : zeros (snpKeepMarks g) ≤ cost 2 g (leastCostSides 2 g)
   snp-le-corrections = let c = corrections-fewest g in le-trans (snp-le-calls _ (c .works)) (le-of-eq (c .count))
@@ -173,14 +175,19 @@ module _ (g : Grid) where
   pub fragments-le-corrections : zeros (fragmentKeepMarks g) ≤ cost 2 g (leastCostSides 2 g)
   fragments-le-corrections = let c = corrections-fewest g in le-trans (fragments-le-calls _ (c .works)) (le-of-eq (c .count))
 
+-- the weights of a table
+pub table-heavy : (n : ℕ) (table : List ℕ) (i : ℕ) → i < gridOf n table .m → 1 ≤ gridOf n table .weight i
+unfolding gridOf
+table-heavy n table i h = weight-range (gradeOf (recordAt table i)) .0
+
 module _ (n : ℕ) (table answer output work : List ℕ) (c : ℕ) (corrects : correctionsLeaves n table answer output work .outcome ≡ accepted c) where
   -- the same of the numbers returned by accepted calls on one table
   pub snp-number-le : (answer work : List ℕ) (s : ℕ) → snpRemovalLeaves n table answer work .outcome ≡ accepted s → s ≤ c
   unfolding snpRemovalLeaves
   snp-number-le answer′ work′ s e =
-      subst₂ (λ (x y : ℕ). x ≤ y) (accepted-count (removalRules n table answer′ work′) _ s e) (corrections-number n table answer output work c corrects) (snp-le-corrections (gridOf n table))
+      subst₂ (λ (x y : ℕ). x ≤ y) (accepted-count (removalRules n table answer′ work′) _ s e) (corrections-number n table answer output work c corrects) (snp-le-corrections (gridOf n table) (table-heavy n table))
 
   pub fragment-number-le : (answer work : List ℕ) (f : ℕ) → fragmentRemovalLeaves n table answer work .outcome ≡ accepted f → f ≤ c
   unfolding fragmentRemovalLeaves
   fragment-number-le answer′ work′ f e =
-      subst₂ (λ (x y : ℕ). x ≤ y) (accepted-count (removalRules n table answer′ work′) _ f e) (corrections-number n table answer output work c corrects) (fragments-le-corrections (gridOf n table))
+      subst₂ (λ (x y : ℕ). x ≤ y) (accepted-count (removalRules n table answer′ work′) _ f e) (corrections-number n table answer output work c corrects) (fragments-le-corrections (gridOf n table) (table-heavy n table))

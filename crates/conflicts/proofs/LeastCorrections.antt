@@ -1,4 +1,4 @@
--- C on a matrix: its changed calls work, are as many as its side list costs, no set of calls that works has fewer, and the side list comes first.
+-- C on a matrix: its changed calls work and come to what its side list costs, no set of calls that works comes to less, and the side list comes first.
 -- Assumes nothing.
 use mathlib.Core.Path.{_≡_, refl, sym, ap, subst, subst₂, _∙_}
 use mathlib.Core.Logic.{_⊎_, inl, inr}
@@ -9,13 +9,13 @@ use native.Mathlib.Nat.{le-refl, le-trans, le-of-eq}
 use native.Mathlib.Omega.{arith}
 use lib.Dec.{T, lit≤}
 use lib.ListN.{length, getD}
-use Rattle.below.specs.Below.{bit, _or_, isnt, anyBelow, sumBelow, countBelow, tab}
+use Rattle.below.specs.Below.{bit, if_then_else_, _or_, isnt, anyBelow, sumBelow, countBelow, tab}
 use Rattle.below.proofs.BelowLaws.{T-isnt, none-at, if-false, sum-le, sum-swap, length-tab, getD-tab}
 use Rattle.below.proofs.RowLaws.{tab-again}
 use Rattle.conflicts.specs.Choice.{marked, keepAll}
 use Rattle.conflicts.specs.Grid.{Grid, withCells, callsConflict, conflictOn}
 use Rattle.conflicts.specs.Sides.{sideLists}
-use Rattle.conflicts.specs.Corrections.{cost, leastCostSides, corrected, differs, cellCount, changedCells, turned}
+use Rattle.conflicts.specs.Corrections.{correctionCost, cost, leastCostSides, corrected, differs, cellTotal, changedTotal, turned}
 use Rattle.conflicts.specs.Minimality.{everything, LawfulSides, ColumnsWork, FragmentsWork, CallsWork, Fewest, Alike, Earlier, FirstOf, SidesCost}
 use Rattle.conflicts.proofs.ChoiceLaws.{firstLeast-is, firstLeast-in}
 use Rattle.conflicts.proofs.OrderLaws.{Precedes, tied-before}
@@ -78,8 +78,8 @@ module _ (k : ℕ) (g : Grid) where
             inr (earlier-same (λ i h. refl) (λ i h. getD-tab (g .m) other i 0 h)
             (subst (λ (n : ℕ). Earlier n (λ i. getD least i 0) (λ i. getD (tab (g .m) other) i 0)) (all-length (g .m)) (sides-order k (keepAll (g .m)) p)))
 
-    -- a set of cells that, turned, lets the fragments be put on k sides with no conflict inside a side has at least as many cells as C's side list costs
-    pub least-bound : (set : ℕ → ℕ → Bool) {side : ℕ → ℕ} → LawfulSides k (turned g set) everything everything side → cost k g least ≤ cellCount g set
+    -- a set of cells that, turned, lets the fragments be put on k sides with no conflict inside a side comes to at least what C's side list costs
+    pub least-bound : (set : ℕ → ℕ → Bool) {side : ℕ → ℕ} → LawfulSides k (turned g set) everything everything side → cost k g least ≤ cellTotal g set
     unfolding turned withCells
     least-bound set {side} w =
         let on : On side = λ i h. w .on i h tt in
@@ -103,9 +103,9 @@ module _ (g : Grid) where
       same : (i j c : ℕ) → T (conflictOn (turned g (differs g (corrected g (leastCostSides 2 g)))) c i j) → T (conflictOn (corrected g (leastCostSides 2 g)) c i j)
       same i j c t = subst₂ (λ (x y : ℕ). T (callsConflict x y)) (sym (corrected-turned g (leastCostSides 2 g) i c)) (sym (corrected-turned g (leastCostSides 2 g) j c)) t
 
-  -- the cells that C changes are calls that work, as many as its side list costs, and no set of calls that works has fewer
-  pub corrections-fewest : Fewest (CallsWork g) (cellCount g) (differs g (corrected g (leastCostSides 2 g))) (cost 2 g (leastCostSides 2 g))
-  unfolding changedCells
+  -- the cells that C changes are calls that work and come to what its side list costs, and no set of calls that works comes to less
+  pub corrections-fewest : Fewest (CallsWork g) (cellTotal g) (differs g (corrected g (leastCostSides 2 g))) (cost 2 g (leastCostSides 2 g))
+  unfolding changedTotal
   corrections-fewest = record {
     works = record { calls = λ i c hi hc t. changed-call g (leastCostSides 2 g) i c t; free = sides-classes corrected-sides };
     count = cost-exact g (leastCostSides 2 g) 2 (least-on 2 g (lit≤ tt));
@@ -122,6 +122,11 @@ any-le-count (suc n) p = step (anyBelow n p) (p n) (any-le-count n p)
     step : {c : ℕ} (a b : Bool) → bit a ≤ c → bit (a or b) ≤ c + bit b
     step true b h = omega arith
     step false b h = omega arith
+
+-- a cell of a set weighs at least 1
+bit-le : (b : Bool) {w : ℕ} → 1 ≤ w → bit b ≤ (if b then w else 0)
+bit-le true h = h
+bit-le false h = zero-le
 
 module _ (g : Grid) (set : ℕ → ℕ → Bool) where
   -- a cell outside the set is not turned
@@ -148,11 +153,16 @@ module _ (g : Grid) (set : ℕ → ℕ → Bool) where
         w .free .apart i j c hi hj hc tt tt tt e (conflict-outside i j c (none-at (g .m) (λ i. set i c) kept i hi) (none-at (g .m) (λ i. set i c) kept j hj) clash);
   }
 
-  pub columns-count : countBelow (g .n) touchedColumn ≤ cellCount g set
-  unfolding cellCount countBelow
-  columns-count =
+  -- "no weight is under 1": a set comes to at least as much as it has cells
+  cells-weigh : ((i : ℕ) → i < g .m → 1 ≤ g .weight i) → sumBelow (g .m) (λ i. countBelow (g .n) (set i)) ≤ cellTotal g set
+  unfolding cellTotal countBelow correctionCost
+  cells-weigh heavy = sum-le (g .m) _ _ λ i hi. sum-le (g .n) _ _ λ c hc. bit-le (set i c) (heavy i hi)
+
+  pub columns-count : ((i : ℕ) → i < g .m → 1 ≤ g .weight i) → countBelow (g .n) touchedColumn ≤ cellTotal g set
+  unfolding countBelow
+  columns-count heavy =
       le-trans (sum-le (g .n) _ (λ c. countBelow (g .m) (λ i. set i c)) λ c hc. any-le-count (g .m) (λ i. set i c))
-      (le-of-eq (sym (sum-swap (g .m) (g .n) (λ i c. bit (set i c)))))
+      (le-trans (le-of-eq (sym (sum-swap (g .m) (g .n) (λ i c. bit (set i c))))) (cells-weigh heavy))
 
   -- the same for the fragments
   pub fragments-touched : CallsWork g set → FragmentsWork g touchedFragment
@@ -163,6 +173,6 @@ module _ (g : Grid) (set : ℕ → ℕ → Bool) where
         w .free .apart i j c hi hj hc tt tt tt e (conflict-outside i j c (none-at (g .n) (set i) ki c hc) (none-at (g .n) (set j) kj c hc) clash);
   }
 
-  pub fragments-count : countBelow (g .m) touchedFragment ≤ cellCount g set
-  unfolding cellCount countBelow
-  fragments-count = sum-le (g .m) _ _ λ i hi. any-le-count (g .n) (set i)
+  pub fragments-count : ((i : ℕ) → i < g .m → 1 ≤ g .weight i) → countBelow (g .m) touchedFragment ≤ cellTotal g set
+  unfolding countBelow
+  fragments-count heavy = le-trans (sum-le (g .m) _ _ λ i hi. any-le-count (g .n) (set i)) (cells-weigh heavy)

@@ -13,11 +13,13 @@ pub mod MixedLaws
 pub mod TallyLaws
 pub mod Outcomes
 pub mod SameLaws
+pub mod AlikeLaws
 pub mod GapLaws
 pub mod CorrectionLaws
 pub mod LeastCorrections
 pub mod CorrectedTableLaws
 pub mod CorrectionsMinimality
+pub mod UnweighedLaws
 pub mod TurningLaws
 pub mod DeepLaws
 pub mod AcceptedServices

@@ -28,7 +28,7 @@ use Rattle.conflicts.proofs.ReachLaws.{joined-same, same-joined, lowest
 
 -- a matrix of n columns by the codes of its rows, one after the other
 rows : ℕ → ℕ → List ℕ → Grid
-rows m n codes = record { m = m; n = n; cell = λ i c. getD codes (i * n + c) 0 }
+rows m n codes = record { m = m; n = n; cell = λ i c. getD codes (i * n + c) 0; weight = λ i. 1 }
 
 -- AA, A- on sides 1 and 2: column 0 is A on both, and no one of side 2 calls column 1
 same-letter : haplotypes 2 (rows 2 2 (1 ∷ 1 ∷ 1 ∷ 0 ∷ [])) (1 ∷ 1 ∷ []) (1 ∷ 2 ∷ []) ≡ 1 ∷ 1 ∷ 1 ∷ 0 ∷ []

@@ -8,6 +8,7 @@ use lib.Dec.{eqb}
 use lib.ListN.{length, replicate}
 use Rattle.below.specs.Below.{bit, if_then_else_, _==_, _<?_, _≤?_, _and_, _or_, isnt, allBelow, anyBelow, sumBelow, countBelow, firstBelow, endBelow, tab, tabFrom, concat}
 use Rattle.records.specs.Record.{littleEndian, tagOf, startOf, spanOf, gradeOf, isCall, cellOf, codeAt}
+use Rattle.records.specs.Grades.{weights, weightOf}
 use Rattle.records.specs.Table.{fragments, recordAt, partStart, partLength, position, unpackedCells, unpackedTags, unpackedGrades}
 use Rattle.records.specs.Writing.{bytesOf, cellBytes, callsEnd, callsStart, callsSpan, withoutCalls, cut, laidOut, recordOf, rowOf, packed}
 use Rattle.records.specs.Outcome.{Verdict, accepted}
@@ -17,10 +18,10 @@ use Rattle.conflicts.specs.Grid.{gridOf, withCells, callsConflict, confl
 use Rattle.conflicts.specs.Counts.{conflictCount, conflictCounts}
 use Rattle.conflicts.specs.Sides.{sidesOf, sideLists, sameSide, lawful, errorFree, firstSides}
 use Rattle.conflicts.specs.Removal.{snpKeepMarks, fragmentKeepMarks}
-use Rattle.conflicts.specs.Corrections.{correctionCost, sideCount, sidePrice, majorityLetter, columnCost, cost, leastCostSides, sideLetter, correctedCell, corrected, differs, cellCount, changedCells}
+use Rattle.conflicts.specs.Corrections.{correctionCost, letterWeight, sidePrice, majorityLetter, columnCost, cost, leastCostSides, sideLetter, correctedCell, corrected, differs, cellTotal, changedTotal}
 use Rattle.conflicts.specs.Haplotypes.{sideCall, haplotype, haplotypes}
 use Rattle.conflicts.specs.Blocks.{linked, reached, lowest, block}
-use Rattle.conflicts.specs.Answer.{answerSize, answer, checkAnswer, snpAnswer, fragmentAnswer, correctedGrid, correctionAnswer, rewrittenCode, rewritten, correctedTable}
+use Rattle.conflicts.specs.Answer.{answerSize, answer, checkAnswer, snpAnswer, fragmentAnswer, correctedGrid, correctionAnswer, rewrittenCode, rewritten, recordsWith, correctedTable}
 use Rattle.conflicts.specs.Services.{workRules, lengthRule, depthRules, packSizeRules, ungradedRules, fragmentRules, unpackRules, packRules, checkRules, conflictCountsRules, lentStages, removalRules, correctionStages, correctionRules, unpackLeaves, packLeaves, findLeaves, checkLeaves, conflictCountsLeaves, snpRemovalLeaves, fragmentRemovalLeaves, correctionsLeaves}
 use Rattle.conflicts.specs.Host.{hostRead}
 use Rattle.records.proofs.TrialTools.{sameVerdict, sameList}
@@ -168,13 +169,13 @@ left call outcome buffers = let r = leaves call in sameVerdict (r .0) outcome &&
 passes : Trial → Bool
 unfolding marks cells frag tableFrom withGrades leaves workLeft lent nines work9 answer9 unpackOn packOn checkOn countsOn SOn FOn COn unpacks answers corrects allKeep freeOn countOn coverageOn ruledOn costOf left sameVerdict sameList hostRead
     _==_ _<?_ _≤?_ _and_ _or_ isnt allBelow anyBelow sumBelow countBelow firstBelow endBelow tab tabFrom concat
-    littleEndian tagOf startOf spanOf gradeOf isCall cellOf codeAt fragments recordAt partStart partLength position unpackedCells unpackedTags unpackedGrades
+    littleEndian tagOf startOf spanOf gradeOf isCall cellOf codeAt weights weightOf fragments recordAt partStart partLength position unpackedCells unpackedTags unpackedGrades
     bytesOf cellBytes callsEnd callsStart callsSpan withoutCalls cut laidOut recordOf rowOf packed
     decide outOfFrame strayBits unknownCall openEnd gapIn gapped tagTwice precedes outOfOrder earlierRules spanRules recordRules gaplessRules tableRules gaplessTableRules sizeRules
     choices passing some first leastOf firstLeast marked zeros keepAll keepLists gridOf withCells callsConflict conflictOn conflictOnKept stretchCovers coverage conflictCount conflictCounts
     sidesOf sideLists sameSide lawful errorFree firstSides snpKeepMarks fragmentKeepMarks
-    correctionCost sideCount sidePrice majorityLetter columnCost cost leastCostSides sideLetter correctedCell corrected differs cellCount changedCells
-    sideCall haplotype haplotypes linked reached lowest block answerSize answer checkAnswer snpAnswer fragmentAnswer correctedGrid correctionAnswer rewrittenCode rewritten correctedTable
+    correctionCost letterWeight sidePrice majorityLetter columnCost cost leastCostSides sideLetter correctedCell corrected differs cellTotal changedTotal
+    sideCall haplotype haplotypes linked reached lowest block answerSize answer checkAnswer snpAnswer fragmentAnswer correctedGrid correctionAnswer rewrittenCode rewritten recordsWith correctedTable
     workRules lengthRule depthRules packSizeRules ungradedRules fragmentRules unpackRules packRules checkRules conflictCountsRules lentStages removalRules correctionStages correctionRules
     unpackLeaves packLeaves findLeaves checkLeaves conflictCountsLeaves snpRemovalLeaves fragmentRemovalLeaves correctionsLeaves
 passes (accepts call count buffers) = left call (accepted count) buffers

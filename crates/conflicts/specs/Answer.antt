@@ -66,6 +66,10 @@ rewrittenCode r row i = if i <? spanOf r then row (startOf r + i) else cellOf r 
 unfoldable pub rewritten : List ℕ → (ℕ → ℕ) → List ℕ
 rewritten r row = take 8 r ++ cellBytes (rewrittenCode r row)
 
+-- a table's records with the codes of a matrix
+unfoldable pub recordsWith : List ℕ → Grid → List ℕ
+recordsWith table g = concat (tab (fragments table) (λ i. rewritten (recordAt table i) (g .cell i)))
+
 -- "a table of 32m bytes, the corrected records"
 unfoldable pub correctedTable : ℕ → List ℕ → List ℕ
-correctedTable n table = concat (tab (fragments table) (λ i. rewritten (recordAt table i) (correctedGrid (gridOf n table) .cell i)))
+correctedTable n table = recordsWith table (correctedGrid (gridOf n table))

@@ -4,24 +4,30 @@ use Prim.Native.Nat.{ℕ}
 use mathlib.Core.Bool.{Bool}
 use mathlib.Core.List.{List}
 use Rattle.below.specs.Below.{_==_, _≤?_, _and_, _or_, isnt, allBelow, anyBelow, countBelow}
-use Rattle.records.specs.Record.{isCall, codeAt}
+use Rattle.records.specs.Record.{gradeOf, isCall, codeAt}
+use Rattle.records.specs.Grades.{weightOf}
 use Rattle.records.specs.Table.{fragments, recordAt}
 use Rattle.records.specs.Rules.{gapIn}
 use Rattle.conflicts.specs.Choice.{marked}
 
--- "SNP matrix": m fragments, n columns, and the code of each fragment at each column: 0 hole, 1 A, 2 B
+-- "SNP matrix": m fragments, n columns, the code of each fragment at each column: 0 hole, 1 A, 2 B; and the weight of each fragment
 pub record Grid : Type 0 where
   pub m : ℕ
   pub n : ℕ
   pub cell : ℕ → ℕ → ℕ
+  pub weight : ℕ → ℕ
 
 -- the matrix of a table with n columns, read from the table's bytes
 unfoldable pub gridOf : ℕ → List ℕ → Grid
-gridOf n table = record { m = fragments table; n = n; cell = λ i c. codeAt (recordAt table i) c }
+gridOf n table = record { m = fragments table; n = n; cell = λ i c. codeAt (recordAt table i) c; weight = λ i. weightOf (gradeOf (recordAt table i)) }
 
--- a matrix of the same size with other cells
+-- a matrix of the same size with other cells and other weights
+unfoldable pub withRows : Grid → (ℕ → ℕ → ℕ) → (ℕ → ℕ) → Grid
+withRows g cell weight = record { m = g .m; n = g .n; cell = cell; weight = weight }
+
+-- … with other cells alone
 unfoldable pub withCells : Grid → (ℕ → ℕ → ℕ) → Grid
-withCells g cell = record { m = g .m; n = g .n; cell = cell }
+withCells g cell = record { m = g .m; n = g .n; cell = cell; weight = g .weight }
 
 -- "one calls A and the other B"
 unfoldable pub callsConflict : ℕ → ℕ → Bool

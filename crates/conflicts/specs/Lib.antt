@@ -12,6 +12,7 @@ pub mod Phased
 pub mod Minimality
 pub mod Turning
 pub mod Services
+pub mod Unweighed
 pub mod Served
 pub mod Ungraded
 pub mod Host

@@ -11,7 +11,7 @@ use Rattle.below.specs.Below.{bit, _==_, _<?_, _and_, isnt, countBelow, tab}
 use Rattle.records.specs.Record.{startOf, spanOf, isCall, cellOf}
 use Rattle.records.specs.Table.{fragments, recordAt}
 use Rattle.conflicts.specs.Grid.{Grid, conflictOn, agree, gridOf}
-use Rattle.conflicts.specs.Corrections.{cost, sideLetter, differs, cellCount, turned}
+use Rattle.conflicts.specs.Corrections.{cost, sideLetter, differs, cellTotal, turned}
 use Rattle.conflicts.specs.Answer.{answerSize, keepMarkIn, sideIn}
 use Rattle.conflicts.specs.Phased.{Phased}
 
@@ -48,7 +48,7 @@ pub record LawfulSides (k : ℕ) (g : Grid) (keptCols keptFrags : ℕ → Bool) 
   pub off : (i : ℕ) → i < g .m → T (isnt (keptFrags i)) → side i ≡ 0
   pub apart : (i j c : ℕ) → i < g .m → j < g .m → c < g .n → T (keptFrags i) → T (keptFrags j) → T (keptCols c) → side i ≡ side j → T (conflictOn g c i j) → ⊥
 
--- a set that works, of so many members, and no set that works has fewer
+-- a set that works, of this size, and no set that works is smaller: the size is how many members it has, and for C what they come to ("their total")
 pub record Fewest {Set : Type 0} (Works : Set → Type 0) (size : Set → ℕ) (this : Set) (number : ℕ) : Type 0 where
   pub works : Works this
   pub count : size this ≡ number
@@ -119,7 +119,7 @@ pub record OthersKept (given table : List ℕ) : Type 0 where
 pub record Corrected (n : ℕ) (given : List ℕ) (bytes table : List ℕ) (number : ℕ) : Type 0 where
   pub filled : length bytes ≡ answerSize (gridOf n given .m) n
   pub marks : (c : ℕ) → c < n → keepMarkIn bytes c ≡ 1
-  pub fewest : Fewest (CallsWork (gridOf n given)) (cellCount (gridOf n given)) (differs (gridOf n given) (gridOf n table)) number
+  pub fewest : Fewest (CallsWork (gridOf n given)) (cellTotal (gridOf n given)) (differs (gridOf n given) (gridOf n table)) number
   pub turns : (i c : ℕ) → i < gridOf n given .m → c < n → gridOf n table .cell i c ≡ turned (gridOf n given) (differs (gridOf n given) (gridOf n table)) .cell i c
   pub holes : (i c : ℕ) → i < gridOf n given .m → c < n → T (isnt (isCall (gridOf n given .cell i c))) → gridOf n table .cell i c ≡ gridOf n given .cell i c
   pub others : OthersKept given table

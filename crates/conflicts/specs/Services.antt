@@ -13,7 +13,7 @@ use Rattle.conflicts.specs.Grid.{Grid, gridOf, coverage}
 use Rattle.conflicts.specs.Counts.{conflictCounts}
 use Rattle.conflicts.specs.Sides.{errorFree}
 use Rattle.conflicts.specs.Removal.{snpKeepMarks, fragmentKeepMarks}
-use Rattle.conflicts.specs.Corrections.{changedCells}
+use Rattle.conflicts.specs.Corrections.{changedTotal}
 use Rattle.conflicts.specs.Answer.{answerSize, checkAnswer, snpAnswer, fragmentAnswer, correctionAnswer, correctedTable}
 
 -- ---- the stages of the rules; records' sizeRules, tableRules and gaplessTableRules are three more
@@ -185,9 +185,9 @@ pub record CorrectionsLeft : Type 0 where
   pub table : List ℕ
   pub work : List ℕ
 
--- C: "the changed cells", of its table against the one given
+-- C: "the least total, which is the sum over the changed cells", of its table against the one given
 unfoldable pub correctionsLeaves : ℕ → List ℕ → List ℕ → List ℕ → List ℕ → CorrectionsLeft
 correctionsLeaves n table answer output work =
     let g = gridOf n table in
-    let v = decide (correctionRules n table answer output work) (accepted (changedCells g (gridOf n (correctedTable n table)))) in
+    let v = decide (correctionRules n table answer output work) (accepted (changedTotal g (gridOf n (correctedTable n table)))) in
     record { outcome = v; answer = written v (correctionAnswer g) answer; table = written v (correctedTable n table) output; work = workAfter v work }

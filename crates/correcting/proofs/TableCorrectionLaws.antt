@@ -7,8 +7,7 @@ use native.Mathlib.Nat.{lt-of-lt-of-le}
 use native.Mathlib.Omega.{arith}
 use lib.Dec.{lit≤}
 use lib.ListN.{length, getD, replicate}
-use Rattle.below.specs.Below.{concat, _<?_}
-use Rattle.records.specs.Record.{codeAt}
+use Rattle.below.specs.Below.{nth, concat, _<?_}
 use Rattle.records.specs.Table.{fragments, recordAt}
 use Rattle.records.specs.Outcome.{Verdict, accepted, refused}
 use Rattle.records.specs.Rules.{decide}
@@ -18,10 +17,10 @@ use Rattle.records.proofs.RuleLaws.{stage-last, stages-kept, stages-refused}
 use Rattle.records.proofs.PackLaws.{sound-fits}
 use Rattle.records.proofs.AcceptedLaws.{whole-records, accepted-sound, sized-count, sized-n, sized-m}
 use Rattle.conflicts.specs.Choice.{keepAll}
-use Rattle.conflicts.specs.Grid.{Grid, gridOf, withCells}
-use Rattle.matrix.specs.Algorithm.Matrix.{matrixGrid}
-use Rattle.conflicts.specs.Corrections.{cost, leastCostSides, correctedCell, corrected, changedCells}
-use Rattle.conflicts.specs.Answer.{answer, correctedGrid, correctionAnswer, correctedTable}
+use Rattle.conflicts.specs.Grid.{Grid, gridOf, withRows, withCells}
+use Rattle.matrix.specs.Algorithm.Matrix.{matrixGrid, weightedGrid}
+use Rattle.conflicts.specs.Corrections.{cost, leastCostSides, correctedCell, corrected, changedTotal}
+use Rattle.conflicts.specs.Answer.{answer, correctedGrid, correctionAnswer, recordsWith, correctedTable}
 use Rattle.conflicts.specs.Served.{NoneDeep}
 use Rattle.conflicts.specs.Services.{written, workAfter, depthRules, correctionRules, correctionsLeaves, correctionStages}
 use Rattle.conflicts.proofs.SameLaws.{answer-cells}
@@ -29,9 +28,8 @@ use Rattle.conflicts.proofs.LeastCorrections.{least-length, least-on}
 use Rattle.conflicts.proofs.CorrectedTableLaws.{rewritten-same, corrected-small}
 use Rattle.conflicts.proofs.CorrectionsMinimality.{changed-number, corrections-accepted}
 use Rattle.conflicts.proofs.DeepLaws.{deep-refused, deep-kept}
-use Rattle.matrix.specs.Algorithm.Cells.{tableCells, MarkedMatrix}
-use Rattle.matrix.proofs.TableLaws.{cells-same, cells-cost, cells-leastCostSides, cells-coverage, cells-correctionAnswer}
-use Rattle.matrix.proofs.AlikeLaws.{correctedCell-cells}
+use Rattle.matrix.specs.Algorithm.Cells.{tableCells, tableWeights, MarkedMatrix}
+use Rattle.matrix.proofs.TableLaws.{cells-coverage, weighed-cost, weighed-sides, weighed-answer, weighed-cell}
 use Rattle.slots.specs.Algorithm.Columns.{firstDeep}
 use Rattle.rewriting.specs.Algorithm.Letters.{OnSides, correctedCells}
 use Rattle.slots.specs.Algorithm.Spans.{Spanned, deepBy}
@@ -40,10 +38,18 @@ use Rattle.slots.proofs.GrantLaws.{first-same}
 use Rattle.rewriting.proofs.LetterLaws.{corrected-cell, corrected-two-bits}
 use Rattle.records.specs.Algorithm.Kept.{SizesKept, RecordsKept}
 use Rattle.correcting.specs.Algorithm.Stages.{CorrectionKept}
+use Rattle.correcting.specs.Algorithm.Settled.{Settled}
 use Rattle.correcting.specs.Meanings.{CorrectionSays}
 use Rattle.rewriting.specs.Algorithm.Rewriting.{rowIn, TwoBits, rewrittenTable}
 use Rattle.conflicts.proofs.SideLaws.{all-length}
 use Rattle.matrix.proofs.KeptLaws.{few, grid-is, table-codes}
+
+-- the sides of least cost are sides
+pub settled-sides : (m n : ℕ) (cells weights : List ℕ) {sides : List ℕ} → sides ≡ leastCostSides 2 (weightedGrid m n cells weights) → OnSides m sides
+unfolding weightedGrid
+settled-sides m n cells weights least =
+    let g = weightedGrid m n cells weights in
+    record { size = ap length least ∙ least-length 2 g (lit≤ tt); on = λ i h. rw least (least-on 2 g (lit≤ tt) i h) }
 
 -- ---- the matrix and the bytes
 
@@ -65,69 +71,69 @@ module _ {n m : ℕ} {table cells : List ℕ} (sized : SizesKept n m table) (kep
     unfolding matrixGrid
     table-shallow past = first-none g (subst (λ (x : ℕ). n ≤ x) (deep-is g starts ends spanned) past)
 
-  -- C's number
-  pub table-count : {r : ℕ} → r ≡ cost 2 (matrixGrid m n cells) (leastCostSides 2 (matrixGrid m n cells)) → r ≡ changedCells (gridOf n table) (gridOf n (correctedTable n table))
-  table-count e =
-      e
-      ∙ ap (λ (h : Grid). cost 2 h (leastCostSides 2 h)) (grid-is sized same)
-      ∙ cells-cost n table (sized-n sized) (few sized same) 2 _
-      ∙ ap (cost 2 (gridOf n table)) (cells-leastCostSides n table (sized-n sized) (few sized same) 2)
-      ∙ sym (changed-number n table (whole-records n table _ _ (sized .kept)))
+  -- the matrix with the weights of the table's grades
+  abbrev w : Grid
+  w = weightedGrid m n cells (tableWeights table)
 
-  module _ {sides : List ℕ} (least : sides ≡ leastCostSides 2 (matrixGrid m n cells)) where
-    pub table-sides : OnSides m sides
-    unfolding matrixGrid
-    table-sides = record { size = ap length least ∙ least-length 2 g (lit≤ tt); on = λ i h. rw least (least-on 2 g (lit≤ tt) i h) }
+  weighed-is : weightedGrid m n cells (tableWeights table) ≡ weightedGrid (fragments table) n (tableCells n table) (tableWeights table)
+  weighed-is = ap₂ (λ (k : ℕ) (x : List ℕ). weightedGrid k n x (tableWeights table)) (sym (sized-count sized)) same
 
-    module _ {fixed : List ℕ} (turned : fixed ≡ correctedCells m n cells sides) where
-      fixed-cell : (i c : ℕ) → i < m → c < n → getD fixed (i * 128 + c) 0 ≡ correctedCell (matrixGrid m n cells) sides i c
-      fixed-cell i c hi hc = ap (λ (l : List ℕ). getD l (i * 128 + c) 0) turned ∙ corrected-cell m n cells sides (sized-m sized) (sized-n sized) i c hi hc
+  module _ {sides fixed : List ℕ} {total : ℕ} (settled : Settled m n cells (tableWeights table) sides fixed total) where
+    -- C's number
+    pub table-count : total ≡ changedTotal (gridOf n table) (gridOf n (correctedTable n table))
+    table-count =
+        settled .costs
+        ∙ ap (λ (h : Grid). cost 2 h (leastCostSides 2 h)) weighed-is
+        ∙ weighed-cost n table (sized-n sized) (few sized same) 2 _
+        ∙ ap (cost 2 (gridOf n table)) (weighed-sides n table (sized-n sized) (few sized same) 2)
+        ∙ sym (changed-number n table (whole-records n table _ _ (sized .kept)))
 
-      pub table-two-bits : TwoBits fixed
-      unfolding matrixGrid corrected withCells
-      table-two-bits = record {
-        small = λ k. rw turned (corrected-two-bits m n cells sides (sized-m sized) (sized-n sized)
-            (λ i c hi hc. corrected-small g sides i c (let x = table-codes sized same kept i c hi hc in omega arith)) k);
-      }
+    fixed-cell : (i c : ℕ) → i < m → c < n → getD fixed (i * 128 + c) 0 ≡ correctedCell (weightedGrid m n cells (tableWeights table)) sides i c
+    fixed-cell i c hi hc = ap (λ (l : List ℕ). getD l (i * 128 + c) 0) (settled .turned) ∙ corrected-cell m n cells (tableWeights table) sides (sized-m sized) (sized-n sized) i c hi hc
 
-      -- the answer is written from a whole matrix
-      pub table-phasable : {cols : List ℕ} → cols ≡ keepAll n → MarkedMatrix m n fixed cols sides
-      unfolding correctedCells
-      table-phasable all = record {
-        few = sized-m sized;
-        narrow = sized-n sized;
-        cells-long = ap length turned ∙ length-tab 16384 _;
-        columns = ap length all ∙ all-length n;
-        fragments = table-sides .size;
-      }
+    pub table-two-bits : TwoBits fixed
+    unfolding matrixGrid weightedGrid corrected withCells
+    table-two-bits = record {
+      small = λ k. rw (settled .turned) (corrected-two-bits m n cells (tableWeights table) sides (sized-m sized) (sized-n sized)
+          (λ i c hi hc. corrected-small w sides i c (let x = table-codes sized same kept i c hi hc in omega arith)) k);
+    }
 
-      -- C's answer
-      pub table-correction : {cols after : List ℕ} → cols ≡ keepAll n → after ≡ answer (matrixGrid m n fixed) cols sides → after ≡ correctionAnswer (gridOf n table)
-      unfolding correctionAnswer correctedGrid corrected withCells matrixGrid
-      table-correction {cols} {after} all e =
-          e
-          ∙ answer-cells (matrixGrid m n fixed) (correctedCell g sides) fixed-cell cols sides
-          ∙ ap₂ (λ (c s : List ℕ). answer (corrected g s) c s) all least
-          ∙ ap correctionAnswer (grid-is sized same)
-          ∙ cells-correctionAnswer n table (sized-n sized) (few sized same)
+    -- the answer is written from a whole matrix
+    pub table-phasable : {cols : List ℕ} → cols ≡ keepAll n → MarkedMatrix m n fixed cols sides
+    unfolding correctedCells
+    table-phasable all = record {
+      few = sized-m sized;
+      narrow = sized-n sized;
+      cells-long = ap length (settled .turned) ∙ length-tab 16384 _;
+      columns = ap length all ∙ all-length n;
+      fragments = settled-sides m n cells (tableWeights table) (settled .least) .size;
+    }
 
-      -- a corrected cell, read from the bytes
-      fixed-code : (i c : ℕ) → i < fragments table → c < n → getD fixed (i * 128 + c) 0 ≡ correctedGrid (gridOf n table) .cell i c
-      unfolding correctedGrid corrected withCells matrixGrid gridOf
-      fixed-code i c hi hc =
-          let bytes = matrixGrid (fragments table) n (tableCells n table) in
-          fixed-cell i c (let e = sized-count sized in omega arith) hc
-          ∙ ap₂ (λ (h : Grid) (s : List ℕ). correctedCell h s i c) (grid-is sized same) (least ∙ ap (leastCostSides 2) (grid-is sized same))
-          ∙ correctedCell-cells bytes (λ i c. codeAt (recordAt table i) c) (cells-same n table (sized-n sized) (few sized same)) (leastCostSides 2 bytes) i c hi hc
-          ∙ ap (λ (s : List ℕ). correctedCell (gridOf n table) s i c) (cells-leastCostSides n table (sized-n sized) (few sized same) 2)
+    -- C's answer
+    pub table-correction : {cols after : List ℕ} → cols ≡ keepAll n → after ≡ answer (matrixGrid m n fixed) cols sides → after ≡ correctionAnswer (gridOf n table)
+    unfolding correctionAnswer correctedGrid corrected withCells withRows matrixGrid weightedGrid
+    table-correction {cols} {after} all e =
+        e
+        ∙ answer-cells (matrixGrid m n fixed) (correctedCell w sides) (nth (tableWeights table)) fixed-cell cols sides
+        ∙ ap₂ (λ (c s : List ℕ). answer (corrected w s) c s) all (settled .least)
+        ∙ ap correctionAnswer weighed-is
+        ∙ weighed-answer n table (sized-n sized) (few sized same)
 
-      -- C's table
-      pub table-records : {after : List ℕ} → after ≡ rewrittenTable table fixed → after ≡ correctedTable n table
-      unfolding rewrittenTable correctedTable rowIn
-      table-records e =
-          e
-          ∙ ap concat (tab-ext (fragments table) _ _ λ i hi.
-          rewritten-same (recordAt table i) _ _ λ c from to. fixed-code i c hi (lt-of-lt-of-le to (sound-fits n (recordAt table i) (accepted-sound n table _ _ (kept .kept) i hi))))
+    -- a corrected cell, read from the bytes
+    fixed-code : (i c : ℕ) → i < fragments table → c < n → getD fixed (i * 128 + c) 0 ≡ correctedGrid (gridOf n table) .cell i c
+    unfolding correctedGrid corrected withCells
+    fixed-code i c hi hc =
+        fixed-cell i c (let e = sized-count sized in omega arith) hc
+        ∙ ap₂ (λ (h : Grid) (s : List ℕ). correctedCell h s i c) weighed-is (settled .least ∙ ap (leastCostSides 2) weighed-is ∙ weighed-sides n table (sized-n sized) (few sized same) 2)
+        ∙ weighed-cell n table (sized-n sized) (few sized same) (leastCostSides 2 (gridOf n table)) i c hi hc
+
+    -- C's table
+    pub table-records : {after : List ℕ} → after ≡ rewrittenTable table fixed → after ≡ correctedTable n table
+    unfolding rewrittenTable correctedTable recordsWith rowIn
+    table-records e =
+        e
+        ∙ ap concat (tab-ext (fragments table) _ _ λ i hi.
+        rewritten-same (recordAt table i) _ _ λ c from to. fixed-code i c hi (lt-of-lt-of-le to (sound-fits n (recordAt table i) (accepted-sound n table _ _ (kept .kept) i hi))))
 
 -- ---- what C returns and leaves
 
@@ -167,7 +173,7 @@ module _ (n : ℕ) (table lent output work : List ℕ) where
     correction-deep e h = left-at _ (after-stages _ ∙ deep-refused (gridOf n table) _ (first-deep (gridOf n table) (rw (sym e) h)) ∙ ap (refused 12) (sym e))
 
     -- every rule is kept, and the work is done
-    pub correction-accepts : n ≤ firstDeep (gridOf n table) → {k : ℕ} {w a t : List ℕ} → k ≡ changedCells (gridOf n table) (gridOf n (correctedTable n table)) → w ≡ replicate (length work) 0
+    pub correction-accepts : n ≤ firstDeep (gridOf n table) → {k : ℕ} {w a t : List ℕ} → k ≡ changedTotal (gridOf n table) (gridOf n (correctedTable n table)) → w ≡ replicate (length work) 0
         → a ≡ correctionAnswer (gridOf n table) → t ≡ correctedTable n table → CorrectionLeft (accepted k) w a t
     unfolding correctionsLeaves gridOf
     correction-accepts e i j l o =

@@ -1,24 +1,26 @@
-// C: the fewest calls to correct.
+// C: the calls to correct, of the least total.
 ghost use mathlib.Core.Path.{_≡_};
 ghost use Prim.Native.Nat.{_*_};
 ghost use lib.ListN.{length};
 ghost use Rattle.records.specs.Outcome.{outcomeOf};
 ghost use Rattle.conflicts.specs.Choice.{keepAll};
 ghost use Rattle.conflicts.specs.Grid.{gridOf};
-ghost use Rattle.matrix.specs.Algorithm.Matrix.{matrixGrid};
-ghost use Rattle.conflicts.specs.Corrections.{changedCells};
+ghost use Rattle.matrix.specs.Algorithm.Matrix.{matrixGrid, Matrix};
+ghost use Rattle.conflicts.specs.Corrections.{changedTotal};
 ghost use Rattle.conflicts.specs.Answer.{answerSize, correctionAnswer, correctedTable};
 ghost use Rattle.conflicts.specs.Services.{correctionsLeaves};
-ghost use Rattle.matrix.specs.Algorithm.Cells.{tableCells};
+ghost use Rattle.matrix.specs.Algorithm.Cells.{tableCells, tableWeights};
 ghost use Rattle.conflicts.specs.Served.{NoneDeep};
 ghost use Rattle.slots.specs.Algorithm.Spans.{Spanned};
 ghost use Rattle.records.specs.Algorithm.Kept.{SizesKept, RecordsKept};
 ghost use Rattle.correcting.specs.Algorithm.Stages.{CorrectionKept};
+ghost use Rattle.correcting.specs.Algorithm.Settled.{Settled};
 ghost use Rattle.correcting.specs.Meanings.{CorrectionSays};
 use corrections::least_cost_sides;
 use matrix::all_kept;
 use matrix::blank_cells;
 use matrix::fill_matrix;
+use matrix::fill_weights;
 use phasing::fill_answer;
 use ranks::table;
 use records::Outcome;
@@ -27,6 +29,28 @@ use rewriting::fill_records;
 use slots::fill_spans;
 use slots::first_deep;
 use stages::correction_fault;
+
+// Settles the sides and the cells after correction, by the weights of the table's grades, and returns the cost.
+fn settle(
+    n: usize,
+    m: usize,
+    table: &[u8],
+    cells: &[u8],
+    starts: &[usize],
+    ends: &[usize],
+    sides: &mut [u8],
+    fixed: &mut [u8],
+) -> usize
+    requires { ⌜ Matrix m n (now cells) × Spanned (matrixGrid m n (now cells)) (now starts) (now ends) × NoneDeep (matrixGrid m n (now cells)) ⌝ }
+    requires { ⌜ (length (now sides) ≡ m) × (length (now fixed) ≡ 16384) ⌝ }
+    ensures { λ r. ⌜ Settled m n (now (cells .entry)) (tableWeights (now (table .entry))) (now (sides .exit)) (now (fixed .exit)) r ⌝ }
+{
+    let mut weights = [0u8; 128];
+    fill_weights(table, &mut weights);
+    let total = least_cost_sides(m, n, cells, &weights, starts, ends, sides);
+    correct_cells(m, n, cells, &weights, sides, fixed);
+    total
+}
 
 // Settles the sides, and writes the answer and the records after correction. The sides and the corrected cells are scratch.
 fn correct_calls(
@@ -47,18 +71,17 @@ fn correct_calls(
     requires { ⌜ Spanned (matrixGrid m n (now cells)) (now starts) (now ends) × NoneDeep (matrixGrid m n (now cells)) ⌝ }
     requires { ⌜ (length (now sides) ≡ m) × (length (now fixed) ≡ 16384) ⌝ }
     requires { ⌜ (length (now answer) ≡ answerSize m n) × (length (now corrected) ≡ 32 * m) ⌝ }
-    ensures count { λ r. ⌜ r ≡ changedCells (gridOf n (now (table .entry))) (gridOf n (correctedTable n (now (table .entry)))) ⌝ }
+    ensures total { λ r. ⌜ r ≡ changedTotal (gridOf n (now (table .entry))) (gridOf n (correctedTable n (now (table .entry)))) ⌝ }
     ensures answer { λ _. ⌜ now (answer .exit) ≡ correctionAnswer (gridOf n (now (table .entry))) ⌝ }
     ensures corrected { λ _. ⌜ now (corrected .exit) ≡ correctedTable n (now (table .entry)) ⌝ }
 {
-    let count = least_cost_sides(m, n, cells, starts, ends, sides);
-    correct_cells(m, n, cells, sides, fixed);
+    let total = settle(n, m, table, cells, starts, ends, sides, fixed);
     fill_answer(m, n, fixed, cols, sides, answer);
     fill_records(table, fixed, corrected);
-    count
+    total
 }
 
-// The number of corrected calls, the answer and the corrected records, of a table without a column that is too deep.
+// The total of the corrected calls, the answer and the corrected records, of a table without a column that is too deep.
 fn correct_table(
     n: usize,
     m: usize,
@@ -73,7 +96,7 @@ fn correct_table(
     requires { ⌜ now cells ≡ tableCells n (now table) ⌝ }
     requires { ⌜ Spanned (matrixGrid m n (now cells)) (now starts) (now ends) × NoneDeep (matrixGrid m n (now cells)) ⌝ }
     requires { ⌜ (length (now answer) ≡ answerSize m n) × (length (now corrected) ≡ 32 * m) ⌝ }
-    ensures count { λ r. ⌜ r ≡ changedCells (gridOf n (now (table .entry))) (gridOf n (correctedTable n (now (table .entry)))) ⌝ }
+    ensures total { λ r. ⌜ r ≡ changedTotal (gridOf n (now (table .entry))) (gridOf n (correctedTable n (now (table .entry)))) ⌝ }
     ensures answer { λ _. ⌜ now (answer .exit) ≡ correctionAnswer (gridOf n (now (table .entry))) ⌝ }
     ensures corrected { λ _. ⌜ now (corrected .exit) ≡ correctedTable n (now (table .entry)) ⌝ }
 {
@@ -119,9 +142,9 @@ fn correct_shallow(
     if deep < n {
         return Outcome::Refused(12, deep);
     }
-    let count = correct_table(n, m, table, cells, &starts, &ends, answer, corrected);
+    let total = correct_table(n, m, table, cells, &starts, &ends, answer, corrected);
     table::clear(work);
-    Outcome::Accepted(count)
+    Outcome::Accepted(total)
 }
 
 // C once every rule but 12 is kept.
@@ -144,7 +167,7 @@ fn correct_kept(
     correct_shallow(n, m, table, &cells, work, answer, corrected)
 }
 
-// Accepted with the number of corrected calls, the answer's 3n + 2m bytes, the 32m bytes of the corrected records, and the work all zero. A refusal writes nothing. Takes 60 KB of stack.
+// Accepted with the total of the corrected calls, each by its fragment's weight, the answer's 3n + 2m bytes, the 32m bytes of the corrected records, and the work all zero. A refusal writes nothing. Takes 60 KB of stack.
 pub fn least_corrections(
     n: usize,
     table: &[u8],

@@ -3,6 +3,7 @@
 use mathlib.Core.Path.{_≡_, sym, ap, subst, _∙_}
 use mathlib.Core.List.{List, _∷_}
 use Prim.Native.Nat.{ℕ, suc, _+_, _*_, _-_, _≤_, _<_, zero-le}
+use native.Mathlib.Decide.{ℕ-discrete}
 use native.Mathlib.Numerals.{add-one}
 use native.Mathlib.Omega.{arith}
 use Rattle.below.specs.Below.{_==_, nth}
@@ -21,8 +22,8 @@ use Rattle.events.proofs.ShapeLaws.{shaped, few-from, few-part, charges-from, c
 use Rattle.conflicts.specs.Served.{NoneDeep}
 use Rattle.slots.specs.Algorithm.Columns.{firstColumn, covers}
 use Rattle.conflicts.specs.Corrections.{columnCost}
-use Rattle.slots.specs.Algorithm.Spans.{Slotted}
-use Rattle.corrections.specs.Algorithm.Sweep.{Gathered, HoldsAll}
+use Rattle.slots.specs.Algorithm.Spans.{Spanned, Slotted}
+use Rattle.corrections.specs.Algorithm.Sweep.{Gathered, EntersIf, HoldsAll}
 use Rattle.patterns.specs.Algorithm.Patterns.{slotCost, PatternsRoom}
 use Rattle.slots.proofs.CoverLaws.{grid-starts, weight-local, cost-bound}
 use Rattle.corrections.proofs.SlotCostLaws.{slot-cost-is}
@@ -52,10 +53,10 @@ module _ (g : Grid) where
       first : Ordered (covers g) (g .n) (enter f ∷ partOf start (g .m) c (suc f) j q) → Absent f (partOf start (g .m) c (suc f) j q)
       first o = o .0
 
-  module _ (slots : List ℕ) (shallow : NoneDeep g) (small : g .m ≤ 128) (columns : g .n ≤ 128) where
+  module _ (slots : List ℕ) (light : (i : ℕ) → i < g .m → g .weight i ≤ 60) (shallow : NoneDeep g) (small : g .m ≤ 128) (columns : g .n ≤ 128) where
     -- ---- room
 
-    few-cost : {cost count : ℕ} → cost ≤ 16 * count → count ≤ 128 → cost ≤ 60000
+    few-cost : {cost count : ℕ} → cost ≤ 240 * count → count ≤ 128 → cost ≤ 60000
     few-cost a b = omega arith
 
     -- a column can be charged
@@ -63,7 +64,7 @@ module _ (g : Grid) where
     unfolding weight
     column-room c q v fits h = record {
       room = λ mask lo lt.
-          let s = shaped (g .m) 16 (g .n) (covers g) (columnCost 2 g) (cost-bound g shallow) (eventsFrom start (g .m) c q)
+          let s = shaped (g .m) 240 (g .n) (covers g) (columnCost 2 g) (λ c s lt. cost-bound g light c s lt shallow) (eventsFrom start (g .m) c q)
           (ordered-from (g .m) (g .n) start (covers g) (grid-starts g) q c fits) (few-from start (g .m) q c) (sidesAt 2 (nth slots) mask) in
           let e = charges-from start (g .m) q c in
           record {
@@ -80,7 +81,7 @@ module _ (g : Grid) where
     unfolding weight
     part-room c q f v fits lt e h = record {
       room = λ mask lo ml.
-          let s = shaped (g .m) 16 (g .n) (covers g) (columnCost 2 g) (cost-bound g shallow) (partOf start (g .m) c (f + 1) (g .m - (f + 1)) q)
+          let s = shaped (g .m) 240 (g .n) (covers g) (columnCost 2 g) (λ c s lt. cost-bound g light c s lt shallow) (partOf start (g .m) c (f + 1) (g .m - (f + 1)) q)
           (ordered c (f + 1) (g .m - (f + 1)) q fits) (few-part start (g .m) c (f + 1) (g .m - (f + 1)) q (omega arith)) (sidesAt 2 (nth slots) mask) in
           let k = charges-part start (g .m) q c (g .m - (f + 1)) (f + 1) in
           let out = s .free f (subst (λ (x : ℕ). Absent f (partOf start (g .m) c x (g .m - (f + 1)) q)) (sym (add-one f)) (absent c f (g .m - (f + 1)) q fits e)) in
@@ -96,14 +97,14 @@ module _ (g : Grid) where
   module _ (slots : List ℕ) (sl : Slotted g slots) where
     -- ---- steps
 
-    pub step-charge : (letters : List ℕ) (c q : ℕ) (v u : ℕ → ℕ) → c < g .n → Gathered g slots c (g .m) letters → HoldsAll g slots (eventsFrom start (g .m) (c + 1) q) v
-        → Sweep (λ mask. slotCost letters mask * top + v mask) v u 0 256 → HoldsAll g slots (partOf start (g .m) c (g .m) (g .m - g .m) q) u
+    pub step-charge : (a b : List ℕ) (c q : ℕ) (v u : ℕ → ℕ) → c < g .n → Gathered g slots c 1 (g .m) a → Gathered g slots c 2 (g .m) b → HoldsAll g slots (eventsFrom start (g .m) (c + 1) q) v
+        → Sweep (λ mask. slotCost a b mask * top + v mask) v u 0 256 → HoldsAll g slots (partOf start (g .m) c (g .m) (g .m - g .m) q) u
     unfolding entering
-    step-charge letters c q v u lt ga h sweep =
+    step-charge a b c q v u lt ga gb h sweep =
         let e : g .m - g .m ≡ 0 = omega arith in
         rw e (holds-charge 2 (omega arith) sideWeight (columnWeight (columnCost 2 g)) (nth slots) 8 c (eventsFrom start (g .m) (suc c) q) v u
         (subst (λ (x : ℕ). HoldsAll g slots (eventsFrom start (g .m) x q) v) (add-one c) h)
-        (λ mask ml. sweep .done mask zero-le ml ∙ ap (λ (x : ℕ). x * top + v mask) (slot-cost-is g slots letters c mask lt sl ga)))
+        (λ mask ml. sweep .done mask zero-le ml ∙ ap (λ (x : ℕ). x * top + v mask) (slot-cost-is g slots c mask lt sl a b ga gb)))
 
     pub step-skip : (c q f : ℕ) (v : ℕ → ℕ) → f < g .m → (start f ≡ c → ⊥) → HoldsAll g slots (partOf start (g .m) c (f + 1) (g .m - (f + 1)) q) v → HoldsAll g slots (partOf start (g .m) c f (g .m - f) q) v
     step-skip c q f v lt ne h =
@@ -119,6 +120,16 @@ module _ (g : Grid) where
         (ordered c (suc f) (g .m - (f + 1)) q fits) (sl .low f)
         (enter-apart (g .m) (g .n) start (covers g) (grid-starts g) (nth slots) (sl .differ) c q (g .m - (f + 1)) f fits lt e)
         (subst (λ (x : ℕ). HoldsAll g slots (partOf start (g .m) c x (g .m - (f + 1)) q) v) (add-one f) h) (λ mask ml. sweep .done mask zero-le ml))
+
+    -- fragment f, by what enter_if left
+    pub step-if : (starts ends : List ℕ) → Spanned g starts ends → (c q f : ℕ) (v u : ℕ → ℕ) → c + suc q ≤ g .n → f < g .m → EntersIf (nth starts f) (nth slots f) c f v u
+        → HoldsAll g slots (partOf start (g .m) c (f + 1) (g .m - (f + 1)) q) v → HoldsAll g slots (partOf start (g .m) c f (g .m - f) q) u
+    step-if starts ends sp c q f v u fits lt left h =
+        let at = sp .begins f lt in
+        elim (ℕ-discrete (nth starts f) c) [
+          | yes e ↦ step-enter c q f v u fits lt (sym at ∙ e) h (left .enters e)
+          | no ne ↦ subst (HoldsAll g slots (partOf start (g .m) c f (g .m - f) q)) (sym (left .passes ne)) (step-skip c q f v lt (λ e. ne (at ∙ e)) h)
+        ]
 
     -- a whole column
     pub step-column : (c f : ℕ) (v : ℕ → ℕ) → f ≡ 0 → c < g .n → HoldsAll g slots (partOf start (g .m) c f (g .m - f) (g .n - (c + 1))) v → HoldsAll g slots (eventsFrom start (g .m) c (g .n - c)) v

@@ -5,8 +5,8 @@ use ranks::rank::Rank;
 ghost use mathlib.Core.Path.{_≡_};
 ghost use Prim.Native.Nat.{ℕ, _+_, _*_, _-_, _<_, _≤_, min};
 ghost use lib.ListN.{length};
-ghost use Rattle.below.specs.Below.{bit, tab, _==_, _and_};
-ghost use Rattle.matrix.specs.Algorithm.Matrix.{matrixGrid, Matrix};
+ghost use Rattle.below.specs.Below.{nth, if_then_else_, tab, _==_};
+ghost use Rattle.matrix.specs.Algorithm.Matrix.{weightedGrid};
 ghost use Rattle.ranks.specs.Algorithm.Weight.{top, place, digitAt};
 ghost use Rattle.ranks.specs.Algorithm.Reading.{code, value};
 ghost use Rattle.ranks.specs.Algorithm.Tables.{at, Sweep};
@@ -14,57 +14,72 @@ ghost use Rattle.events.specs.Algorithm.Events.{eventsFrom, events, partOf};
 ghost use Rattle.events.specs.Algorithm.Weights.{sideWeight};
 ghost use Rattle.events.specs.Algorithm.Slots.{entered};
 ghost use Rattle.slots.specs.Algorithm.Columns.{firstColumn};
-ghost use Rattle.corrections.specs.Algorithm.Sweep.{Gathering, withLetter, GathersAll, Ready, HoldsAll};
-ghost use Rattle.patterns.specs.Algorithm.Patterns.{Patterns, Alone, PatternRoom, PatternsRoom, enteredAt, slotCost};
+ghost use Rattle.corrections.specs.Algorithm.Sweep.{Gathering, withPrice, GathersAll, EnterRoom, EntersIf, Ready, HoldsAll};
+ghost use Rattle.patterns.specs.Algorithm.Patterns.{Patterns};
 
-// The letter of fragment i at column c goes to its slot, if it covers the column.
+// What a correction costs where a call is the letter, and 0 where it is not.
+fn price(code: u8, letter: u8, weight: u8) -> u8
+    ensures { λ r. ⌜ r ≡ if code == letter then weight else 0 ⌝ }
+{
+    if code == letter {
+        return weight;
+    }
+    0
+}
+
+// The prices of A and of B of fragment i at column c go to its slot, if it covers the column.
 fn gather_one(
     cells: &[u8],
+    weights: &[u8],
     starts: &[usize],
     ends: &[usize],
     slots: &[usize],
-    letters: &mut [u8],
+    a: &mut [u8],
+    b: &mut [u8],
     c: usize,
     i: usize,
 )
-    requires { ⌜ Gathering (now cells) (now starts) (now ends) (now slots) (now letters) c × (i < 128) ⌝ }
-    ensures { λ _. ⌜ now (letters .exit) ≡ withLetter (now (cells .entry)) (now (starts .entry)) (now (ends .entry)) (now (slots .entry)) c i (now (letters .entry)) ⌝ }
+    requires { ⌜ Gathering (now cells) (now weights) (now starts) (now ends) (now slots) c × (i < 128) × (length (now a) ≡ 8) × (length (now b) ≡ 8) ⌝ }
+    ensures { λ _. ⌜ (now (a .exit) ≡ withPrice (now (cells .entry)) (now (weights .entry)) (now (starts .entry)) (now (ends .entry)) (now (slots .entry)) c 1 i (now (a .entry)))
+        × (now (b .exit) ≡ withPrice (now (cells .entry)) (now (weights .entry)) (now (starts .entry)) (now (ends .entry)) (now (slots .entry)) c 2 i (now (b .entry))) ⌝ }
 {
     if starts[i] <= c {
         if c < ends[i] {
-            let b = slots[i];
-            letters[b] = cells[i * 128 + c];
+            let slot = slots[i];
+            let code = cells[i * 128 + c];
+            let weight = weights[i];
+            a[slot] = price(code, 1, weight);
+            b[slot] = price(code, 2, weight);
         }
     }
 }
 
-// The letters of column c, slot by slot, from letters that are all 0.
+// The prices of A and of B at column c, slot by slot, from prices that are all 0.
 fn gather(
     m: usize,
     cells: &[u8],
+    weights: &[u8],
     starts: &[usize],
     ends: &[usize],
     slots: &[usize],
-    letters: &mut [u8],
+    a: &mut [u8],
+    b: &mut [u8],
     c: usize,
 )
-    requires { ⌜ (m ≤ 128) × Gathering (now cells) (now starts) (now ends) (now slots) (now letters) c ⌝ }
-    ensures { λ _. ⌜ GathersAll m (now (cells .entry)) (now (starts .entry)) (now (ends .entry)) (now (slots .entry)) c (now (letters .entry)) (now (letters .exit)) ⌝ }
+    requires { ⌜ (m ≤ 128) × Gathering (now cells) (now weights) (now starts) (now ends) (now slots) c × (length (now a) ≡ 8) × (length (now b) ≡ 8) ⌝ }
+    ensures { λ _. ⌜ GathersAll m (now (cells .entry)) (now (weights .entry)) (now (starts .entry)) (now (ends .entry)) (now (slots .entry)) c 1 (now (a .entry)) (now (a .exit))
+        × GathersAll m (now (cells .entry)) (now (weights .entry)) (now (starts .entry)) (now (ends .entry)) (now (slots .entry)) c 2 (now (b .entry)) (now (b .exit)) ⌝ }
 {
     let mut i = 0;
     while i < m {
-        gather_one(cells, starts, ends, slots, letters, c, i);
+        gather_one(cells, weights, starts, ends, slots, a, b, c, i);
         i += 1;
     }
 }
 
 // Fragment f enters, if it starts at column c.
 fn enter_if(
-    m: usize,
-    n: usize,
-    cells: &[u8],
     starts: &[usize],
-    ends: &[usize],
     slots: &[usize],
     counts: &mut [u16],
     highs: &mut [u64],
@@ -72,9 +87,9 @@ fn enter_if(
     c: usize,
     f: usize,
 )
-    requires { ⌜ Ready m n (now cells) (now starts) (now ends) (now slots) × Patterns (now counts) (now highs) (now lows) × (c < n) × (f < m)
-        × HoldsAll (matrixGrid m n (now cells)) (now slots) (partOf (firstColumn (matrixGrid m n (now cells))) m c (f + 1) (m - (f + 1)) (n - (c + 1))) (at (now counts) (now highs) (now lows)) ⌝ }
-    ensures { λ _. ⌜ HoldsAll (matrixGrid m n (now (cells .entry))) (now (slots .entry)) (partOf (firstColumn (matrixGrid m n (now (cells .entry)))) m c f (m - f) (n - (c + 1)))
+    requires { ⌜ (length (now starts) ≡ 128) × (length (now slots) ≡ 128) × Patterns (now counts) (now highs) (now lows) × (f < 128) × (nth (now slots) f < 8)
+        × EnterRoom (nth (now starts) f) c f (at (now counts) (now highs) (now lows)) ⌝ }
+    ensures { λ _. ⌜ EntersIf (nth (now (starts .entry)) f) (nth (now (slots .entry)) f) c f (at (now (counts .entry)) (now (highs .entry)) (now (lows .entry)))
         (at (now (counts .exit)) (now (highs .exit)) (now (lows .exit))) ⌝ }
 {
     let s = starts[f];
@@ -89,6 +104,7 @@ fn column(
     m: usize,
     n: usize,
     cells: &[u8],
+    weights: &[u8],
     starts: &[usize],
     ends: &[usize],
     slots: &[usize],
@@ -97,18 +113,19 @@ fn column(
     lows: &mut [u64],
     c: usize,
 )
-    requires { ⌜ Ready m n (now cells) (now starts) (now ends) (now slots) × Patterns (now counts) (now highs) (now lows) × (c < n)
-        × HoldsAll (matrixGrid m n (now cells)) (now slots) (eventsFrom (firstColumn (matrixGrid m n (now cells))) m (c + 1) (n - (c + 1))) (at (now counts) (now highs) (now lows)) ⌝ }
-    ensures { λ _. ⌜ HoldsAll (matrixGrid m n (now (cells .entry))) (now (slots .entry)) (eventsFrom (firstColumn (matrixGrid m n (now (cells .entry)))) m c (n - c))
+    requires { ⌜ Ready m n (now cells) (now weights) (now starts) (now ends) (now slots) × Patterns (now counts) (now highs) (now lows) × (c < n)
+        × HoldsAll (weightedGrid m n (now cells) (now weights)) (now slots) (eventsFrom (firstColumn (weightedGrid m n (now cells) (now weights))) m (c + 1) (n - (c + 1))) (at (now counts) (now highs) (now lows)) ⌝ }
+    ensures { λ _. ⌜ HoldsAll (weightedGrid m n (now (cells .entry)) (now (weights .entry))) (now (slots .entry)) (eventsFrom (firstColumn (weightedGrid m n (now (cells .entry)) (now (weights .entry)))) m c (n - c))
         (at (now (counts .exit)) (now (highs .exit)) (now (lows .exit))) ⌝ }
 {
-    let mut letters = [0u8; 8];
-    gather(m, cells, starts, ends, slots, &mut letters, c);
-    charge(&letters, counts, highs, lows);
+    let mut a = [0u8; 8];
+    let mut b = [0u8; 8];
+    gather(m, cells, weights, starts, ends, slots, &mut a, &mut b, c);
+    charge(&a, &b, counts, highs, lows);
     let mut f = m;
     while 0 < f {
         f -= 1;
-        enter_if(m, n, cells, starts, ends, slots, counts, highs, lows, c, f);
+        enter_if(starts, slots, counts, highs, lows, c, f);
     }
 }
 
@@ -117,6 +134,7 @@ pub(crate) fn all_columns(
     m: usize,
     n: usize,
     cells: &[u8],
+    weights: &[u8],
     starts: &[usize],
     ends: &[usize],
     slots: &[usize],
@@ -124,15 +142,27 @@ pub(crate) fn all_columns(
     highs: &mut [u64],
     lows: &mut [u64],
 )
-    requires { ⌜ Ready m n (now cells) (now starts) (now ends) (now slots) × Patterns (now counts) (now highs) (now lows)
-        × HoldsAll (matrixGrid m n (now cells)) (now slots) (eventsFrom (firstColumn (matrixGrid m n (now cells))) m n (n - n)) (at (now counts) (now highs) (now lows)) ⌝ }
-    ensures { λ _. ⌜ HoldsAll (matrixGrid m n (now (cells .entry))) (now (slots .entry)) (events (firstColumn (matrixGrid m n (now (cells .entry)))) m n)
+    requires { ⌜ Ready m n (now cells) (now weights) (now starts) (now ends) (now slots) × Patterns (now counts) (now highs) (now lows)
+        × HoldsAll (weightedGrid m n (now cells) (now weights)) (now slots) (eventsFrom (firstColumn (weightedGrid m n (now cells) (now weights))) m n (n - n)) (at (now counts) (now highs) (now lows)) ⌝ }
+    ensures { λ _. ⌜ HoldsAll (weightedGrid m n (now (cells .entry)) (now (weights .entry))) (now (slots .entry)) (events (firstColumn (weightedGrid m n (now (cells .entry)) (now (weights .entry)))) m n)
         (at (now (counts .exit)) (now (highs .exit)) (now (lows .exit))) ⌝ }
 {
     let mut c = n;
     while 0 < c {
         c -= 1;
-        column(m, n, cells, starts, ends, slots, counts, highs, lows, c);
+        column(
+            m,
+            n,
+            cells,
+            weights,
+            starts,
+            ends,
+            slots,
+            counts,
+            highs,
+            lows,
+            c,
+        );
     }
 }
 

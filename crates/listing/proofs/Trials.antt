@@ -9,6 +9,7 @@ use Prim.Native.String.{String}
 use lib.Dec.{eqb}
 use Rattle.below.specs.Below.{if_then_else_, _==_, _<?_, _≤?_, _and_, _or_, isnt, allBelow, anyBelow, sumBelow, countBelow, firstBelow, endBelow, maxBelow, tab, tabFrom, concat}
 use Rattle.records.specs.Record.{littleEndian, tagOf, startOf, spanOf, gradeOf, isCall, cellOf, codeAt}
+use Rattle.records.specs.Grades.{weights, weightOf}
 use Rattle.records.specs.Table.{fragments, recordAt, columnCount}
 use Rattle.records.specs.Writing.{bytesOf, cellBytes}
 use Rattle.records.specs.Outcome.{refused}
@@ -18,10 +19,10 @@ use Rattle.conflicts.specs.Choice.{choices, passing, some, first, leastOf, firs
 use Rattle.conflicts.specs.Grid.{gridOf, withCells, callsConflict, conflictOn, conflictOnKept, stretchCovers, coverage}
 use Rattle.conflicts.specs.Sides.{sidesOf, sideLists, sameSide, lawful, errorFree, firstSides}
 use Rattle.conflicts.specs.Removal.{snpKeepMarks, fragmentKeepMarks}
-use Rattle.conflicts.specs.Corrections.{correctionCost, sideCount, sidePrice, majorityLetter, columnCost, cost, leastCostSides, sideLetter, correctedCell, corrected, differs, cellCount, changedCells}
+use Rattle.conflicts.specs.Corrections.{correctionCost, letterWeight, sidePrice, majorityLetter, columnCost, cost, leastCostSides, sideLetter, correctedCell, corrected, differs, cellTotal, changedTotal}
 use Rattle.conflicts.specs.Haplotypes.{sideCall, haplotype, haplotypes}
 use Rattle.conflicts.specs.Blocks.{linked, reached, lowest, block}
-use Rattle.conflicts.specs.Answer.{answerSize, answer, keepMarkIn, haplotypeIn, sideIn, blockIn, checkAnswer, snpAnswer, fragmentAnswer, correctedGrid, correctionAnswer, rewrittenCode, rewritten, correctedTable}
+use Rattle.conflicts.specs.Answer.{answerSize, answer, keepMarkIn, haplotypeIn, sideIn, blockIn, checkAnswer, snpAnswer, fragmentAnswer, correctedGrid, correctionAnswer, rewrittenCode, rewritten, recordsWith, correctedTable}
 use Rattle.conflicts.specs.Services.{workRules, lengthRule, depthRules, checkRules, lentStages, removalRules, correctionStages, correctionRules, checkLeaves, snpRemovalLeaves, fragmentRemovalLeaves, correctionsLeaves}
 use Rattle.below.specs.Text.{ascii}
 use Rattle.listing.specs.Listing.{digitsOf, decimal, digits, letters, signOf, blockWord, led, joined, field, line, refusal, sizesLine, errorFreeLine, columnFields, fragmentFields, fields, serviceLine, blank, checkLine, snpLine, fragmentLine, correctionLine, listed, listing}
@@ -66,12 +67,12 @@ trials =
 pub all-pass : failing 0 trials ≡ []
 unfolding printed holed passes failing trials sameList filled made
     _==_ _<?_ _≤?_ _and_ _or_ isnt allBelow anyBelow sumBelow countBelow firstBelow endBelow maxBelow tab tabFrom concat
-    littleEndian tagOf startOf spanOf gradeOf isCall cellOf codeAt fragments recordAt columnCount bytesOf cellBytes
+    littleEndian tagOf startOf spanOf gradeOf isCall cellOf codeAt weights weightOf fragments recordAt columnCount bytesOf cellBytes
     decide outOfFrame strayBits unknownCall openEnd gapIn gapped tagTwice precedes outOfOrder earlierRules spanRules recordRules gaplessRules tableRules gaplessTableRules sizeRules tableVerdict
     choices passing some first leastOf firstLeast marked zeros keepAll keepLists gridOf withCells callsConflict conflictOn conflictOnKept stretchCovers coverage
     sidesOf sideLists sameSide lawful errorFree firstSides snpKeepMarks fragmentKeepMarks
-    correctionCost sideCount sidePrice majorityLetter columnCost cost leastCostSides sideLetter correctedCell corrected differs cellCount changedCells
-    sideCall haplotype haplotypes linked reached lowest block answerSize answer keepMarkIn haplotypeIn sideIn blockIn checkAnswer snpAnswer fragmentAnswer correctedGrid correctionAnswer rewrittenCode rewritten correctedTable
+    correctionCost letterWeight sidePrice majorityLetter columnCost cost leastCostSides sideLetter correctedCell corrected differs cellTotal changedTotal
+    sideCall haplotype haplotypes linked reached lowest block answerSize answer keepMarkIn haplotypeIn sideIn blockIn checkAnswer snpAnswer fragmentAnswer correctedGrid correctionAnswer rewrittenCode rewritten recordsWith correctedTable
     workRules lengthRule depthRules checkRules lentStages removalRules correctionStages correctionRules checkLeaves snpRemovalLeaves fragmentRemovalLeaves correctionsLeaves
     digitsOf decimal digits letters signOf blockWord led joined field line ascii refusal sizesLine errorFreeLine columnFields fragmentFields fields serviceLine blank checkLine snpLine fragmentLine correctionLine listed listing
 all-pass = refl

@@ -1,6 +1,6 @@
--- The cell matrix of a table, row by row.
+-- The cell matrix of a table, row by row, and the weights of its fragments.
 -- Assumes nothing.
-use mathlib.Core.Path.{_≡_, refl, ap, ap₂, _∙_}
+use mathlib.Core.Path.{_≡_, refl, sym, ap, ap₂, _∙_}
 use mathlib.Core.Bool.{Bool}
 use mathlib.Core.List.{List}
 use Prim.Native.Nat.{ℕ, _+_, _*_, _/_, _%_, _<_}
@@ -9,14 +9,15 @@ use native.Mathlib.Omega.{arith}
 use denote.Ref.{RefT, now}
 use lib.ListN.{length}
 use Rattle.below.specs.Below.{if_then_else_, _<?_, _and_}
-use Rattle.below.proofs.BelowLaws.{if-ind, length-tab}
+use Rattle.below.proofs.BelowLaws.{if-ind, if-true, if-false, lt-<?, le-isnt, length-tab}
 use Rattle.below.proofs.SearchLaws.{<?-true, <?-false}
 use Rattle.below.proofs.TestLaws.{and-true, if-first}
-use Rattle.records.specs.Record.{codeAt}
+use Rattle.records.specs.Record.{gradeOf, codeAt}
+use Rattle.records.specs.Grades.{weights, weightOf}
 use Rattle.records.specs.Table.{fragments, recordAt, partStart, partLength, Part}
 use Rattle.records.proofs.FieldLaws.{codeAt-nil}
 use Rattle.records.proofs.PartLaws.{part-record, part-past}
-use Rattle.matrix.specs.Algorithm.Cells.{tableCells}
+use Rattle.matrix.specs.Algorithm.Cells.{tableCells, tableWeight}
 
 pub length-cells : (n : ℕ) (table : List ℕ) → length (tableCells n table) ≡ 16384
 unfolding tableCells
@@ -44,4 +45,15 @@ table-row n t i c part p h =
           ∙ if-ind (λ x. x ≡ 0) (c <? n) (λ s. codeAt-nil c) (λ s. refl)
           ∙ if-first (c <? n) (codeAt (recordAt (now t) i) c) 0 (<?-false i m (omega arith))
           ∙ place
+    ]
+
+-- a fragment's weight, from the part that record_at gave
+pub part-weight : (t : RefT (List ℕ)) (i : ℕ) (part : RefT (List ℕ)) → Part t (partStart (now t) i) (partLength (now t) i) part → weightOf (gradeOf (now part)) ≡ tableWeight (now t) i
+unfolding tableWeight gradeOf weightOf weights
+part-weight t i part p =
+    let m = fragments (now t) in
+    let weighs : List ℕ → ℕ = λ r. weightOf (gradeOf r) in
+    elim (decLt i m) [
+      | yes g ↦ ap weighs (part-record t i part p g) ∙ sym (if-true (i <? m) (weighs (recordAt (now t) i)) 1 (lt-<? i m g))
+      | no g ↦ ap weighs (part-past t i part p (omega arith)) ∙ sym (if-false (i <? m) (weighs (recordAt (now t) i)) 1 (le-isnt i m (omega arith)))
     ]

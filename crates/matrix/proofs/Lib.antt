@@ -1,4 +1,3 @@
 pub mod CellLaws
-pub mod AlikeLaws
 pub mod TableLaws
 pub mod KeptLaws

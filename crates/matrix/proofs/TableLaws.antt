@@ -2,22 +2,26 @@
 -- Assumes nothing.
 use mathlib.Core.Path.{_≡_, ap₂, _∙_}
 use mathlib.Core.List.{List}
-use Prim.Native.Nat.{ℕ, _+_, _*_, _/_, _%_, _<_, _≤_}
+use Prim.Native.Nat.{ℕ, _+_, _*_, _/_, _%_, _<_, _≤_, zero-le}
+use native.Mathlib.Decide.{decLt}
 use native.Mathlib.Omega.{arith}
-use lib.ListN.{getD}
-use Rattle.below.specs.Below.{if_then_else_, _<?_, _and_}
-use Rattle.records.specs.Record.{codeAt}
+use lib.Dec.{lit≤}
+use lib.ListN.{getD, List·getD-eq-default}
+use Rattle.below.specs.Below.{nth, if_then_else_, _<?_, _and_, tab}
+use Rattle.records.specs.Record.{gradeOf, codeAt}
+use Rattle.records.specs.Grades.{weightOf}
 use Rattle.records.specs.Table.{fragments, recordAt}
-use Rattle.below.proofs.BelowLaws.{both, if-true, lt-<?, getD-tab}
-use Rattle.conflicts.specs.Grid.{Grid, gridOf, withCells, callsConflict, gapless, coverage}
-use Rattle.matrix.specs.Algorithm.Matrix.{matrixGrid}
+use Rattle.below.proofs.BelowLaws.{both, if-ind, if-true, lt-<?, length-tab, getD-tab}
+use Rattle.records.proofs.GradeLaws.{weight-range}
+use Rattle.conflicts.specs.Grid.{Grid, gridOf, withRows, callsConflict, gapless, coverage}
+use Rattle.matrix.specs.Algorithm.Matrix.{matrixGrid, weightedGrid, Weights}
 use Rattle.conflicts.specs.Sides.{errorFree, firstSides}
 use Rattle.conflicts.specs.Removal.{snpKeepMarks, fragmentKeepMarks}
-use Rattle.conflicts.specs.Corrections.{cost, leastCostSides}
+use Rattle.conflicts.specs.Corrections.{cost, leastCostSides, correctedCell}
 use Rattle.conflicts.specs.Answer.{answer, correctionAnswer}
-use Rattle.matrix.specs.Algorithm.Cells.{tableCells}
+use Rattle.matrix.specs.Algorithm.Cells.{tableCells, tableWeight, tableWeights}
 use Rattle.conflicts.proofs.SameLaws.{errorFree-conflicts, firstSides-conflicts, snp-conflicts, fragment-conflicts, answer-cells}
-use Rattle.matrix.proofs.AlikeLaws.{coverage-cells, gapless-cells, cost-cells, leastCostSides-cells, correctionAnswer-cells}
+use Rattle.conflicts.proofs.AlikeLaws.{coverage-cells, gapless-cells, correctedCell-alike, cost-alike, leastCostSides-alike, correctionAnswer-alike}
 
 module _ (n : ℕ) (table : List ℕ) (narrow : n ≤ 128) (few : fragments table ≤ 128) where
   -- the grid of the table's cell matrix
@@ -26,6 +30,9 @@ module _ (n : ℕ) (table : List ℕ) (narrow : n ≤ 128) (few : fragments tabl
 
   abbrev cell : ℕ → ℕ → ℕ
   cell i c = codeAt (recordAt table i) c
+
+  abbrev weight : ℕ → ℕ
+  weight i = weightOf (gradeOf (recordAt table i))
 
   -- the matrix has the table's code of each fragment at each column
   pub cells-same : (i c : ℕ) → i < fragments table → c < n → getD (tableCells n table) (i * 128 + c) 0 ≡ codeAt (recordAt table i) c
@@ -42,41 +49,71 @@ module _ (n : ℕ) (table : List ℕ) (narrow : n ≤ 128) (few : fragments tabl
   conflicts-same i j c hi hj hc = ap₂ callsConflict (cells-same i c hi hc) (cells-same j c hj hc)
 
   pub cells-errorFree : (k : ℕ) (cols frags : List ℕ) → errorFree k cellsGrid cols frags ≡ errorFree k (gridOf n table) cols frags
-  unfolding matrixGrid gridOf withCells
-  cells-errorFree = errorFree-conflicts cellsGrid cell conflicts-same
+  unfolding matrixGrid gridOf withRows
+  cells-errorFree = errorFree-conflicts cellsGrid cell weight conflicts-same
 
   pub cells-firstSides : (k : ℕ) (cols frags : List ℕ) → firstSides k cellsGrid cols frags ≡ firstSides k (gridOf n table) cols frags
-  unfolding matrixGrid gridOf withCells
-  cells-firstSides = firstSides-conflicts cellsGrid cell conflicts-same
+  unfolding matrixGrid gridOf withRows
+  cells-firstSides = firstSides-conflicts cellsGrid cell weight conflicts-same
 
   pub cells-answer : (cols sides : List ℕ) → answer cellsGrid cols sides ≡ answer (gridOf n table) cols sides
-  unfolding matrixGrid gridOf withCells
-  cells-answer = answer-cells cellsGrid cell cells-same
+  unfolding matrixGrid gridOf withRows
+  cells-answer = answer-cells cellsGrid cell weight cells-same
 
   pub cells-snpKeepMarks : snpKeepMarks cellsGrid ≡ snpKeepMarks (gridOf n table)
-  unfolding matrixGrid gridOf withCells
-  cells-snpKeepMarks = snp-conflicts cellsGrid cell conflicts-same
+  unfolding matrixGrid gridOf withRows
+  cells-snpKeepMarks = snp-conflicts cellsGrid cell weight conflicts-same
 
   pub cells-fragmentKeepMarks : fragmentKeepMarks cellsGrid ≡ fragmentKeepMarks (gridOf n table)
-  unfolding matrixGrid gridOf withCells
-  cells-fragmentKeepMarks = fragment-conflicts cellsGrid cell conflicts-same
-
-  pub cells-cost : (k : ℕ) (sides : List ℕ) → cost k cellsGrid sides ≡ cost k (gridOf n table) sides
-  unfolding matrixGrid gridOf withCells
-  cells-cost = cost-cells cellsGrid cell cells-same
-
-  pub cells-leastCostSides : (k : ℕ) → leastCostSides k cellsGrid ≡ leastCostSides k (gridOf n table)
-  unfolding matrixGrid gridOf withCells
-  cells-leastCostSides = leastCostSides-cells cellsGrid cell cells-same
+  unfolding matrixGrid gridOf withRows
+  cells-fragmentKeepMarks = fragment-conflicts cellsGrid cell weight conflicts-same
 
   pub cells-gapless : gapless cellsGrid ≡ gapless (gridOf n table)
-  unfolding matrixGrid gridOf withCells
-  cells-gapless = gapless-cells cellsGrid cell cells-same
+  unfolding matrixGrid gridOf withRows
+  cells-gapless = gapless-cells cellsGrid cell weight cells-same
 
   pub cells-coverage : (c : ℕ) → coverage cellsGrid c ≡ coverage (gridOf n table) c
-  unfolding matrixGrid gridOf withCells
-  cells-coverage = coverage-cells cellsGrid cell cells-same
+  unfolding matrixGrid gridOf withRows
+  cells-coverage = coverage-cells cellsGrid cell weight cells-same
 
-  pub cells-correctionAnswer : correctionAnswer cellsGrid ≡ correctionAnswer (gridOf n table)
-  unfolding matrixGrid gridOf withCells
-  cells-correctionAnswer = correctionAnswer-cells cellsGrid cell cells-same
+  -- ---- with the weights, for C
+
+  abbrev pub weighedGrid : Grid
+  weighedGrid = weightedGrid (fragments table) n (tableCells n table) (tableWeights table)
+
+  pub weights-same : (i : ℕ) → i < fragments table → nth (tableWeights table) i ≡ weightOf (gradeOf (recordAt table i))
+  unfolding tableWeights tableWeight
+  weights-same i h = getD-tab 128 (tableWeight table) i 0 (omega arith) ∙ if-true (i <? fragments table) _ _ (lt-<? i (fragments table) h)
+
+  pub weighed-cost : (k : ℕ) (sides : List ℕ) → cost k weighedGrid sides ≡ cost k (gridOf n table) sides
+  unfolding weightedGrid gridOf withRows
+  weighed-cost = cost-alike weighedGrid cell weight cells-same weights-same
+
+  pub weighed-sides : (k : ℕ) → leastCostSides k weighedGrid ≡ leastCostSides k (gridOf n table)
+  unfolding weightedGrid gridOf withRows
+  weighed-sides = leastCostSides-alike weighedGrid cell weight cells-same weights-same
+
+  pub weighed-answer : correctionAnswer weighedGrid ≡ correctionAnswer (gridOf n table)
+  unfolding weightedGrid gridOf withRows
+  weighed-answer = correctionAnswer-alike weighedGrid cell weight cells-same weights-same
+
+  pub weighed-cell : (sides : List ℕ) (i c : ℕ) → i < fragments table → c < n → correctedCell weighedGrid sides i c ≡ correctedCell (gridOf n table) sides i c
+  unfolding weightedGrid gridOf withRows
+  weighed-cell sides i c hi hc = correctedCell-alike weighedGrid cell weight weights-same c (λ i hi. cells-same i c hi hc) sides i (cells-same i c hi hc)
+
+-- no weight is over 60
+weight-most : (table : List ℕ) (i : ℕ) → tableWeight table i ≤ 60
+unfolding tableWeight
+weight-most table i = if-ind (λ w. w ≤ 60) (i <? fragments table) (λ t. weight-range _ .1) (λ t. lit≤ tt)
+
+pub table-weights : (table : List ℕ) → Weights (tableWeights table)
+unfolding tableWeights
+table-weights table =
+    let long = length-tab 128 (tableWeight table) in
+    record {
+      size = long;
+      most = λ i. elim (decLt i 128) [
+        | yes h ↦ rw (getD-tab 128 (tableWeight table) i 0 h) (weight-most table i)
+        | no h ↦ rw (List·getD-eq-default (tab 128 (tableWeight table)) 0 {n = i} (omega arith)) zero-le
+      ];
+    }

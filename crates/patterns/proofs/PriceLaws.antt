@@ -1,36 +1,32 @@
--- What a mask costs at the letters of a column, slot by slot.
+-- What a mask costs at the prices of a column, slot by slot.
 -- Assumes nothing.
-use mathlib.Core.Path.{_≡_, refl, sym, ap, ap₂, _∙_}
+use mathlib.Core.Path.{_≡_, refl, ap, ap₂, _∙_}
 use mathlib.Core.List.{List}
-use Prim.Native.Nat.{ℕ, _+_, _≤_, min}
-use lib.ListN.{getD}
+use Prim.Native.Nat.{ℕ, zero, suc, _+_, _*_, _≤_, _<_, min, zero-le}
+use native.Mathlib.Numerals.{add-one}
 use native.Mathlib.Omega.{arith}
-use Rattle.below.specs.Below.{bit, countBelow, sumBelow, _==_, _and_}
-use Rattle.below.proofs.BelowLaws.{count-next, count-bound}
-use Rattle.conflicts.specs.Corrections.{sidePrice}
+use Rattle.below.specs.Below.{nth, if_then_else_, sumBelow, _==_}
+use Rattle.below.proofs.BelowLaws.{if-ind}
 use Rattle.events.specs.Algorithm.Slots.{digit}
-use Rattle.patterns.specs.Algorithm.Patterns.{slotHas, slotCost}
+use Rattle.patterns.specs.Algorithm.Patterns.{Prices, slotShare, slotTotal}
 
-pub has-none : (letters : List ℕ) (mask d letter : ℕ) → 0 ≡ countBelow 0 (slotHas letters mask d letter)
-unfolding countBelow sumBelow
-has-none letters mask d letter = refl
+pub total-none : (prices : List ℕ) (mask d : ℕ) → 0 ≡ sumBelow 0 (slotShare prices mask d)
+unfolding sumBelow
+total-none prices mask d = refl
 
-pub has-more : (letters : List ℕ) (mask d letter b count x digit-b r : ℕ) → count ≡ countBelow b (slotHas letters mask d letter) → x ≡ bit (digit-b == d and getD letters b 0 == letter)
-    → digit-b ≡ digit 2 b mask → r ≡ count + x → r ≡ countBelow (b + 1) (slotHas letters mask d letter)
-unfolding slotHas
-has-more letters mask d letter b count x digit-b r ec ex ed er =
-    er ∙ ap₂ _+_ ec (ex ∙ ap (λ (y : ℕ). bit (y == d and getD letters b 0 == letter)) ed) ∙ sym (count-next b (λ b. digit 2 b mask == d and getD letters b 0 == letter))
+pub total-more : (prices : List ℕ) (mask d b total x r : ℕ) → total ≡ sumBelow b (slotShare prices mask d) → x ≡ (if digit 2 b mask == d then nth prices b else 0)
+    → r ≡ total + x → r ≡ sumBelow (b + 1) (slotShare prices mask d)
+unfolding slotShare sumBelow
+total-more prices mask d b total x r et ex er = rw (add-one b) (er ∙ ap₂ _+_ et ex)
 
--- the counts so far are few
-pub has-few : (letters : List ℕ) (mask d letter b count : ℕ) → count ≡ countBelow b (slotHas letters mask d letter) → count ≤ b
-has-few letters mask d letter b count e = let h = count-bound b (slotHas letters mask d letter) in omega arith
+-- the total so far has room
+total-room : (prices : List ℕ) (mask d : ℕ) → Prices prices → (b : ℕ) → sumBelow b (slotShare prices mask d) ≤ b * 60
+unfolding sumBelow slotShare
+total-room prices mask d p zero = zero-le
+total-room prices mask d p (suc b) =
+    let rest = total-room prices mask d p b in
+    let last = if-ind (λ x. x ≤ 60) (digit 2 b mask == d) (λ t. p .most b) (λ t. zero-le) in
+    omega arith
 
-pub cost-made : (letters : List ℕ) (mask b a1 b1 a2 b2 : ℕ) {r : ℕ} → b ≡ 8
-    → a1 ≡ countBelow b (slotHas letters mask 0 1) → b1 ≡ countBelow b (slotHas letters mask 0 2)
-    → a2 ≡ countBelow b (slotHas letters mask 1 1) → b2 ≡ countBelow b (slotHas letters mask 1 2) → r ≡ min a1 b1 + min a2 b2 → r ≡ slotCost letters mask
-unfolding slotCost sidePrice
-cost-made letters mask b a1 b1 a2 b2 eb ea1 eb1 ea2 eb2 er =
-    er ∙ ap₂ _+_ (ap₂ min (at 0 1 a1 ea1) (at 0 2 b1 eb1)) (ap₂ min (at 1 1 a2 ea2) (at 1 2 b2 eb2))
-  where
-    at : (d letter x : ℕ) → x ≡ countBelow b (slotHas letters mask d letter) → x ≡ countBelow 8 (slotHas letters mask d letter)
-    at d letter x e = e ∙ ap (λ (y : ℕ). countBelow y (slotHas letters mask d letter)) eb
+pub total-few : (prices : List ℕ) (mask d b total : ℕ) → Prices prices → total ≡ sumBelow b (slotShare prices mask d) → total ≤ b * 60
+total-few prices mask d b total p e = let h = total-room prices mask d p b in omega arith

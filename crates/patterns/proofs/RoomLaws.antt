@@ -75,16 +75,16 @@ room y h k = omega arith
 
 -- ---- a column is charged
 
-pub charge-fits : (s r : Rank) (x : ℕ) {v : ℕ} → s .high < 2 ^ 64 → s .low < 2 ^ 64 → r .high < 2 ^ 64 → r .low < 2 ^ 64 → value s ≡ x * top → x ≤ 16 → value r ≡ v → PatternRoom 0 v → SumFits s r
+pub charge-fits : (s r : Rank) (x : ℕ) {v : ℕ} → s .high < 2 ^ 64 → s .low < 2 ^ 64 → r .high < 2 ^ 64 → r .low < 2 ^ 64 → value s ≡ x * top → x ≤ 960 → value r ≡ v → PatternRoom 0 v → SumFits s r
 charge-fits s r x hs ls hr lr es few er m =
     let a = parts-of s x 0 hs ls (es ∙ omega arith) top-positive in
     let b = room-parts r hr lr er m in
     record { counts = sums (a .0) few (b .0); codes = room (code r) (a .1) (b .1) }
   where
-    sums : {c y : ℕ} → c ≡ x → x ≤ 16 → y ≤ 60000 → c + y < 2 ^ 32
+    sums : {c y : ℕ} → c ≡ x → x ≤ 960 → y ≤ 60000 → c + y < 2 ^ 32
     sums h k l = omega arith
 
-pub charge-count : (t : Rank) (x : ℕ) {v : ℕ} → t .high < 2 ^ 64 → t .low < 2 ^ 64 → x ≤ 16 → value t ≡ x * top + v → PatternRoom 0 v → t .count < 65536
+pub charge-count : (t : Rank) (x : ℕ) {v : ℕ} → t .high < 2 ^ 64 → t .low < 2 ^ 64 → x ≤ 960 → value t ≡ x * top + v → PatternRoom 0 v → t .count < 65536
 charge-count t x {v} ht lt few e m =
     let i = m .is in
     let q : value t ≡ (x + m .cost) * top + m .places = e ∙ omega (arith, add-mul x (m .cost) top) in

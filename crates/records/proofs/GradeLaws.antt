@@ -1,13 +1,12 @@
 -- Every weight lies between 1 and 60, by one test of the table.
 -- Assumes nothing.
-use mathlib.Core.Path.{_≡_, refl}
+use mathlib.Core.Path.{_≡_}
 use mathlib.Core.Bool.{Bool}
-use mathlib.Core.List.{List, [], _∷_}
-use Prim.Native.Nat.{ℕ, zero, suc, _≤_, _<_}
+use Prim.Native.Nat.{ℕ, _≤_, _<_}
 use native.Mathlib.Decide.{decLt}
 use native.Mathlib.Omega.{arith}
 use lib.Dec.{T}
-use lib.ListN.{getD, length}
+use lib.ListN.{getD, List·getD-eq-default}
 use Rattle.below.specs.Below.{_==_, _≤?_, _and_, allBelow}
 use Rattle.below.proofs.BelowLaws.{left-of, right-of, ==-eq, ≤?-le, allBelow-at}
 use Rattle.records.specs.Grades.{weights, weightOf}
@@ -27,15 +26,10 @@ entry k h =
     let within = right-of _ _ t in
     (==-eq _ _ (left-of _ _ t), ≤?-le _ _ (left-of _ _ within), ≤?-le _ _ (right-of _ _ within))
 
-past : {A : Type 0} (l : List A) (k : ℕ) (d : A) → length l ≤ k → getD l k d ≡ d
-past [] k d h = refl
-past (x ∷ xs) zero d h = absurd (omega arith)
-past (x ∷ xs) (suc k) d h = past xs k d (omega arith)
-
 -- a number that is no grade
 pub no-grade : (k : ℕ) → 16 ≤ k → weightOf k ≡ 1
 unfolding weightOf weights
-no-grade k h = past weights k 1 h
+no-grade k h = List·getD-eq-default weights 1 h
 
 -- "no weight is under 1", and none is over 60
 pub weight-range : (grade : ℕ) → (1 ≤ weightOf grade) × (weightOf grade ≤ 60)

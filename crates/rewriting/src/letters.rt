@@ -3,18 +3,18 @@ use records::is_call;
 ghost use mathlib.Core.Path.{_≡_};
 ghost use Prim.Native.Nat.{_≤_, _<_};
 ghost use lib.ListN.{length};
-ghost use Rattle.below.specs.Below.{bit, nth, if_then_else_, tab, _==_, _and_};
+ghost use Rattle.below.specs.Below.{nth, if_then_else_, tab, _==_, _and_};
 ghost use Rattle.records.specs.Record.{isCall};
-ghost use Rattle.matrix.specs.Algorithm.Matrix.{matrixGrid, Matrix};
-ghost use Rattle.conflicts.specs.Corrections.{sideCount, sideLetter, majorityLetter};
-ghost use Rattle.rewriting.specs.Algorithm.Letters.{correctedCells, OnSides, correctedAt};
+ghost use Rattle.matrix.specs.Algorithm.Matrix.{weightedGrid, Matrix};
+ghost use Rattle.conflicts.specs.Corrections.{letterWeight, sideLetter, majorityLetter};
+ghost use Rattle.rewriting.specs.Algorithm.Letters.{OnSides, correctedCells, letteredAt};
 
-// 1 where a test passes, and 0 where it fails.
-fn one_if(test: bool) -> usize
-    ensures { λ r. ⌜ (r ≡ bit test) × (r ≤ 1) ⌝ }
+// A weight where a test passes, and 0 where it fails.
+fn weight_if(test: bool, weight: u8) -> usize
+    ensures { λ r. ⌜ (r ≡ if test then weight else 0) × (r ≤ 255) ⌝ }
 {
     if test {
-        return 1;
+        return weight as usize;
     }
     0
 }
@@ -29,21 +29,30 @@ fn is_letter(x: u8, side: u8, s: u8, letter: u8) -> bool
     false
 }
 
-// How often side s has a letter at column c.
-fn side_count(m: usize, cells: &[u8], sides: &[u8], s: u8, c: usize, letter: u8) -> usize
-    requires { ⌜ (m ≤ 128) × (c < 128) × (length (now cells) ≡ 16384) × (length (now sides) ≡ m) ⌝ }
-    ensures { λ r. ⌜ r ≡ sideCount (matrixGrid m 128 (now (cells .entry))) (nth (now (sides .entry))) s c letter ⌝ }
+// The weight of a letter on side s at column c.
+fn letter_weight(
+    m: usize,
+    cells: &[u8],
+    weights: &[u8],
+    sides: &[u8],
+    s: u8,
+    c: usize,
+    letter: u8,
+) -> usize
+    requires { ⌜ (m ≤ 128) × (c < 128) × (length (now cells) ≡ 16384) × (length (now weights) ≡ 128) × (length (now sides) ≡ m) ⌝ }
+    ensures { λ r. ⌜ r ≡ letterWeight (weightedGrid m 128 (now (cells .entry)) (now (weights .entry))) (nth (now (sides .entry))) s c letter ⌝ }
 {
-    let mut count = 0;
+    let mut total = 0;
     let mut i = 0;
     while i < m {
-        count += one_if(is_letter(cells[i * 128 + c], sides[i], s, letter));
+        let has = is_letter(cells[i * 128 + c], sides[i], s, letter);
+        total += weight_if(has, weights[i]);
         i += 1;
     }
-    count
+    total
 }
 
-// The commoner of two letters, by their counts; on equal counts A.
+// The letter that stays, by the weights of A and B; on equal weights A.
 fn majority(a: usize, b: usize) -> u8
     ensures { λ r. ⌜ r ≡ majorityLetter a b ⌝ }
 {
@@ -54,23 +63,23 @@ fn majority(a: usize, b: usize) -> u8
 }
 
 // The letter of side s at column c.
-fn side_letter(m: usize, cells: &[u8], sides: &[u8], s: u8, c: usize) -> u8
-    requires { ⌜ (m ≤ 128) × (c < 128) × (length (now cells) ≡ 16384) × (length (now sides) ≡ m) ⌝ }
-    ensures { λ r. ⌜ r ≡ sideLetter (matrixGrid m 128 (now (cells .entry))) (now (sides .entry)) s c ⌝ }
+fn side_letter(m: usize, cells: &[u8], weights: &[u8], sides: &[u8], s: u8, c: usize) -> u8
+    requires { ⌜ (m ≤ 128) × (c < 128) × (length (now cells) ≡ 16384) × (length (now weights) ≡ 128) × (length (now sides) ≡ m) ⌝ }
+    ensures { λ r. ⌜ r ≡ sideLetter (weightedGrid m 128 (now (cells .entry)) (now (weights .entry))) (now (sides .entry)) s c ⌝ }
 {
-    let a = side_count(m, cells, sides, s, c, 1);
-    let b = side_count(m, cells, sides, s, c, 2);
+    let a = letter_weight(m, cells, weights, sides, s, c, 1);
+    let b = letter_weight(m, cells, weights, sides, s, c, 2);
     majority(a, b)
 }
 
 // Writes the letter of side s at each column.
-fn fill_letters(m: usize, cells: &[u8], sides: &[u8], s: u8, letters: &mut [u8])
-    requires { ⌜ (m ≤ 128) × (length (now cells) ≡ 16384) × (length (now sides) ≡ m) × (length (now letters) ≡ 128) ⌝ }
-    ensures { λ _. ⌜ now (letters .exit) ≡ tab 128 (sideLetter (matrixGrid m 128 (now (cells .entry))) (now (sides .entry)) s) ⌝ }
+fn fill_letters(m: usize, cells: &[u8], weights: &[u8], sides: &[u8], s: u8, letters: &mut [u8])
+    requires { ⌜ (m ≤ 128) × (length (now cells) ≡ 16384) × (length (now weights) ≡ 128) × (length (now sides) ≡ m) × (length (now letters) ≡ 128) ⌝ }
+    ensures { λ _. ⌜ now (letters .exit) ≡ tab 128 (sideLetter (weightedGrid m 128 (now (cells .entry)) (now (weights .entry))) (now (sides .entry)) s) ⌝ }
 {
     let mut c = 0;
     while c < 128 {
-        letters[c] = side_letter(m, cells, sides, s, c);
+        letters[c] = side_letter(m, cells, weights, sides, s, c);
         c += 1;
     }
 }
@@ -105,10 +114,8 @@ fn corrected_at(
     second: &[u8],
     k: usize,
 ) -> u8
-    requires { ⌜ Matrix m n (now cells) × OnSides m (now sides) × (k < 16384) ⌝ }
-    requires { ⌜ now first ≡ tab 128 (sideLetter (matrixGrid m 128 (now cells)) (now sides) 1) ⌝ }
-    requires { ⌜ now second ≡ tab 128 (sideLetter (matrixGrid m 128 (now cells)) (now sides) 2) ⌝ }
-    ensures { λ r. ⌜ r ≡ correctedAt m n (now (cells .entry)) (now (sides .entry)) k ⌝ }
+    requires { ⌜ Matrix m n (now cells) × (length (now sides) ≡ m) × (length (now first) ≡ 128) × (length (now second) ≡ 128) × (k < 16384) ⌝ }
+    ensures { λ r. ⌜ r ≡ letteredAt m n (now (cells .entry)) (now (sides .entry)) (now (first .entry)) (now (second .entry)) k ⌝ }
 {
     let i = k / 128;
     let c = k % 128;
@@ -131,10 +138,8 @@ fn fill_corrected(
     second: &[u8],
     corrected: &mut [u8],
 )
-    requires { ⌜ Matrix m n (now cells) × OnSides m (now sides) × (length (now corrected) ≡ 16384) ⌝ }
-    requires { ⌜ now first ≡ tab 128 (sideLetter (matrixGrid m 128 (now cells)) (now sides) 1) ⌝ }
-    requires { ⌜ now second ≡ tab 128 (sideLetter (matrixGrid m 128 (now cells)) (now sides) 2) ⌝ }
-    ensures { λ _. ⌜ now (corrected .exit) ≡ correctedCells m n (now (cells .entry)) (now (sides .entry)) ⌝ }
+    requires { ⌜ Matrix m n (now cells) × (length (now sides) ≡ m) × (length (now first) ≡ 128) × (length (now second) ≡ 128) × (length (now corrected) ≡ 16384) ⌝ }
+    ensures { λ _. ⌜ now (corrected .exit) ≡ tab 16384 (letteredAt m n (now (cells .entry)) (now (sides .entry)) (now (first .entry)) (now (second .entry))) ⌝ }
 {
     let mut k = 0;
     while k < 16384 {
@@ -143,14 +148,21 @@ fn fill_corrected(
     }
 }
 
-// Writes the matrix after correction.
-pub fn correct_cells(m: usize, n: usize, cells: &[u8], sides: &[u8], corrected: &mut [u8])
-    requires { ⌜ Matrix m n (now cells) × OnSides m (now sides) × (length (now corrected) ≡ 16384) ⌝ }
-    ensures { λ _. ⌜ now (corrected .exit) ≡ correctedCells m n (now (cells .entry)) (now (sides .entry)) ⌝ }
+// Writes the matrix after correction, by the weights of the fragments.
+pub fn correct_cells(
+    m: usize,
+    n: usize,
+    cells: &[u8],
+    weights: &[u8],
+    sides: &[u8],
+    corrected: &mut [u8],
+)
+    requires { ⌜ Matrix m n (now cells) × (length (now weights) ≡ 128) × OnSides m (now sides) × (length (now corrected) ≡ 16384) ⌝ }
+    ensures { λ _. ⌜ now (corrected .exit) ≡ correctedCells m n (now (cells .entry)) (now (weights .entry)) (now (sides .entry)) ⌝ }
 {
     let mut first = [0u8; 128];
     let mut second = [0u8; 128];
-    fill_letters(m, cells, sides, 1, &mut first);
-    fill_letters(m, cells, sides, 2, &mut second);
+    fill_letters(m, cells, weights, sides, 1, &mut first);
+    fill_letters(m, cells, weights, sides, 2, &mut second);
     fill_corrected(m, n, cells, sides, &first, &second, corrected);
 }

@@ -1,23 +1,50 @@
--- The fragments of a matrix start and cover as the events want it; a column's cost looks only at them, and is bounded by how many they are.
+-- The fragments of a matrix start and cover as the events want it; a column's cost looks only at them, and is bounded by what they weigh.
 -- Assumes nothing.
 use mathlib.Core.Path.{_≡_, refl, ap, ap₂}
 use mathlib.Core.Bool.{Bool, true, false}
-use Prim.Native.Nat.{ℕ, suc, _-_, _≤_, _<_, zero-le}
-use native.Mathlib.Nat.{le-refl, min-le-left}
+use mathlib.Core.List.{List}
+use Prim.Native.Nat.{ℕ, zero, suc, _+_, _*_, _-_, _≤_, _<_, zero-le}
+use native.Mathlib.Nat.{min-le-left, min-le-right, suc-mul}
 use native.Mathlib.Omega.{arith}
 use lib.Dec.{T}
-use Rattle.below.specs.Below.{if_then_else_, bit, sumBelow, countBelow, _==_, _<?_, _≤?_, _and_}
+use Rattle.below.specs.Below.{nth, if_then_else_, bit, sumBelow, countBelow, _==_, _<?_, _≤?_, _and_}
 use Rattle.records.specs.Record.{isCall}
 use Rattle.records.specs.Writing.{callsEnd}
-use Rattle.below.proofs.BelowLaws.{both, left-of, right-of, if-ind, ==-eq, <?-lt, lt-<?, ≤?-le, le-≤?, same-test, anyBelow-at, anyBelow-of, sum-ext, sum-le, count-ext, firstBelow-le, firstBelow-at, firstBelow-least}
+use Rattle.below.proofs.BelowLaws.{both, left-of, right-of, ==-eq, <?-lt, lt-<?, ≤?-le, le-≤?, same-test, anyBelow-at, anyBelow-of, sum-ext, sum-le, sum-add, count-ext, firstBelow-le, firstBelow-at, firstBelow-least}
 use Rattle.records.proofs.ExtentLaws.{endBelow-le, endBelow-at, endBelow-past, call-of}
 use Rattle.conflicts.specs.Grid.{Grid, stretchCovers, coverage}
-use Rattle.conflicts.specs.Corrections.{correctionCost, sidePrice, sideCount, columnCost}
+use Rattle.conflicts.specs.Corrections.{correctionCost, sidePrice, letterWeight, columnCost, cost}
 use Rattle.events.specs.Algorithm.Weights.{columnWeight}
 use Rattle.events.proofs.EventLaws.{Local, local-weight}
 use Rattle.events.proofs.ColumnLaws.{Starts}
 use Rattle.slots.specs.Algorithm.Columns.{firstColumn, endColumn, covers}
 use Rattle.conflicts.specs.Served.{NoneDeep}
+
+-- ---- sums
+
+-- what passes either of two tests that exclude each other weighs no more than what passes a third that both imply
+either-le : (p q r : Bool) (w : ℕ) → (T p → T q → ⊥) → (T p → T r) → (T q → T r) → (if p then w else 0) + (if q then w else 0) ≤ (if r then w else 0)
+either-le true true r w apart f h = absurd (apart tt tt)
+either-le true false true w apart f h = omega arith
+either-le true false false w apart f h = absurd (f tt)
+either-le false true true w apart f h = omega arith
+either-le false true false w apart f h = absurd (h tt)
+either-le false false r w apart f h = zero-le
+
+-- what passes a test weighs at most 60 each
+weigh-le : (m : ℕ) (p : ℕ → Bool) (w : ℕ → ℕ) → ((i : ℕ) → i < m → w i ≤ 60) → sumBelow m (λ i. if p i then w i else 0) ≤ countBelow m p * 60
+unfolding sumBelow countBelow
+weigh-le zero p w light = zero-le
+weigh-le (suc m) p w light = step (p m) (countBelow m p) (weigh-le m p w (λ i h. light i (omega arith))) (light m (omega arith))
+  where
+    step : (b : Bool) (k : ℕ) {x w : ℕ} → x ≤ k * 60 → w ≤ 60 → x + (if b then w else 0) ≤ (k + bit b) * 60
+    step true k a h = omega arith
+    step false k a h = omega arith
+
+each-le : (n : ℕ) (f : ℕ → ℕ) (k : ℕ) → ((i : ℕ) → i < n → f i ≤ k) → sumBelow n f ≤ n * k
+unfolding sumBelow
+each-le zero f k h = zero-le
+each-le (suc n) f k h = let rest = each-le n f k (λ i l. h i (omega arith)) in let last = h n (omega arith) in omega (arith, suc-mul n k)
 
 module _ (g : Grid) where
   -- ---- covers
@@ -95,8 +122,8 @@ module _ (g : Grid) where
   and-same false true false h = refl
   and-same false false false h = refl
 
-  count-local : (x c letter : ℕ) → 0 < letter → letter ≤ 2 → c < g .n → (s t : ℕ → ℕ) → ((i : ℕ) → T (covers g c i) → s i ≡ t i) → sideCount g s x c letter ≡ sideCount g t x c letter
-  unfolding sideCount
+  count-local : (x c letter : ℕ) → 0 < letter → letter ≤ 2 → c < g .n → (s t : ℕ → ℕ) → ((i : ℕ) → T (covers g c i) → s i ≡ t i) → letterWeight g s x c letter ≡ letterWeight g t x c letter
+  unfolding letterWeight
   count-local x c letter lo hi hc s t same =
       sum-ext (g .m) _ _ λ i l. ap (λ (b : Bool). if b then correctionCost g i else 0)
       (and-same (s i == x) (t i == x) (g .cell i c == letter) (λ v. ap (λ (y : ℕ). y == x) (same i (called-covers c i hc l (letter-call c i letter lo hi v)))))
@@ -112,24 +139,51 @@ module _ (g : Grid) where
   pub weight-local : (k : ℕ) → Local (g .n) (covers g) (columnWeight (columnCost k g))
   weight-local k = local-weight (cost-local k)
 
-  -- a letter occurs at most once for each fragment that covers the column
-  letter-bound : (s : ℕ → ℕ) (x c letter : ℕ) → 0 < letter → letter ≤ 2 → c < g .n → sideCount g s x c letter ≤ countBelow (g .m) (covers g c)
-  unfolding sideCount countBelow correctionCost
-  letter-bound s x c letter lo hi hc =
-      sum-le (g .m) _ _ λ i l. if-ind (λ y. y ≤ bit (covers g c i)) (s i == x and g .cell i c == letter)
-      (λ t. one (covers g c i) (called-covers c i hc l (letter-call c i letter lo hi (right-of _ _ t)))) (λ t. zero-le)
-    where
-      one : (b : Bool) → T b → 1 ≤ bit b
-      one true t = le-refl 1
-      one false t = absurd t
+  -- ---- its bound, where no weight is over 60
 
-  pub cost-bound : NoneDeep g → (c : ℕ) (s : ℕ → ℕ) → c < g .n → columnCost 2 g c s ≤ 16
-  unfolding columnCost sumBelow sidePrice
-  cost-bound sh c s lt =
-      let d = sh .shallow c lt in
-      let e = coverage-is c lt in
-      let a = letter-bound s 1 c 1 (omega arith) (omega arith) lt in
-      let b = letter-bound s 2 c 1 (omega arith) (omega arith) lt in
-      let p = min-le-left (sideCount g s 1 c 1) (sideCount g s 1 c 2) in
-      let q = min-le-left (sideCount g s 2 c 1) (sideCount g s 2 c 2) in
-      omega arith
+  module _ (light : (i : ℕ) → i < g .m → g .weight i ≤ 60) (c : ℕ) (s : ℕ → ℕ) (hc : c < g .n) where
+    -- what the fragments of side x that cover the column weigh
+    sideTotal : ℕ → ℕ
+    sideTotal x = sumBelow (g .m) (λ i. if s i == x and covers g c i then g .weight i else 0)
+
+    letter-covers : (x i letter : ℕ) → i < g .m → 0 < letter → letter ≤ 2 → T (s i == x and g .cell i c == letter) → T (s i == x and covers g c i)
+    letter-covers x i letter h lo hi t = both _ _ (left-of _ _ t) (called-covers c i hc h (letter-call c i letter lo hi (right-of _ _ t)))
+
+    -- a fragment has one letter at the column
+    letters-le : (x : ℕ) → letterWeight g s x c 1 + letterWeight g s x c 2 ≤ sideTotal x
+    unfolding letterWeight correctionCost sideTotal
+    letters-le x =
+        rw (← sum-add (g .m) (λ i. if s i == x and g .cell i c == 1 then g .weight i else 0) (λ i. if s i == x and g .cell i c == 2 then g .weight i else 0))
+        (sum-le (g .m) _ _ λ i h. either-le (s i == x and g .cell i c == 1) (s i == x and g .cell i c == 2) (s i == x and covers g c i) (g .weight i)
+        (λ p q. let a = ==-eq _ _ (right-of _ _ p) in let b = ==-eq _ _ (right-of _ _ q) in omega arith)
+        (letter-covers x i 1 h (omega arith) (omega arith)) (letter-covers x i 2 h (omega arith) (omega arith)))
+
+    -- and one side
+    sides-le : sideTotal 1 + sideTotal 2 ≤ sumBelow (g .m) (λ i. if covers g c i then g .weight i else 0)
+    unfolding sideTotal
+    sides-le =
+        rw (← sum-add (g .m) (λ i. if s i == 1 and covers g c i then g .weight i else 0) (λ i. if s i == 2 and covers g c i then g .weight i else 0))
+        (sum-le (g .m) _ _ λ i h. either-le (s i == 1 and covers g c i) (s i == 2 and covers g c i) (covers g c i) (g .weight i)
+        (λ p q. let a = ==-eq _ _ (left-of _ _ p) in let b = ==-eq _ _ (left-of _ _ q) in omega arith)
+        (λ t. right-of _ _ t) (λ t. right-of _ _ t))
+
+    -- each side changes the letter of smaller weight, so at most half of 8 × 60 is paid
+    pub cost-bound : NoneDeep g → columnCost 2 g c s ≤ 240
+    unfolding columnCost sumBelow sidePrice
+    cost-bound sh =
+        let d = sh .shallow c hc in
+        let e = coverage-is c hc in
+        let all = weigh-le (g .m) (covers g c) (g .weight) light in
+        let sides = sides-le in
+        let one = letters-le 1 in
+        let two = letters-le 2 in
+        let p = min-le-left (letterWeight g s 1 c 1) (letterWeight g s 1 c 2) in
+        let p′ = min-le-right (letterWeight g s 1 c 1) (letterWeight g s 1 c 2) in
+        let q = min-le-left (letterWeight g s 2 c 1) (letterWeight g s 2 c 2) in
+        let q′ = min-le-right (letterWeight g s 2 c 1) (letterWeight g s 2 c 2) in
+        omega arith
+
+  -- "8 × 60 / 2 × 128": no side list costs more, on at most 128 columns
+  pub cost-within : ((i : ℕ) → i < g .m → g .weight i ≤ 60) → NoneDeep g → g .n ≤ 128 → (sides : List ℕ) → cost 2 g sides ≤ 30720
+  unfolding cost
+  cost-within light sh narrow sides = let h = each-le (g .n) (λ c. columnCost 2 g c (nth sides)) 240 (λ c hc. cost-bound light c (nth sides) hc sh) in omega arith

@@ -12,14 +12,15 @@ use lib.Seq.{getD-set-same, getD-set-other}
 use Rattle.below.specs.Below.{_==_, _<?_, _≤?_, _and_, isnt, countBelow, firstBelow, nth}
 use Rattle.below.proofs.BelowLaws.{any-ext}
 use Rattle.below.proofs.SearchLaws.{<?-true, <?-false, ≤?-true, ≤?-false}
-use Rattle.conflicts.specs.Grid.{Grid}
+use Rattle.conflicts.specs.Grid.{Grid, stretchCovers, coverage}
+use Rattle.matrix.specs.Algorithm.Matrix.{matrixGrid, weightedGrid}
 use Rattle.conflicts.specs.Served.{NoneDeep}
 use Rattle.ranks.specs.Algorithm.Tables.{Put}
 use Rattle.events.specs.Algorithm.Events.{withValue}
 use Rattle.events.specs.Algorithm.Slots.{turnOf, taken, used, freeSlot, Given}
 use Rattle.events.proofs.LeastLaws.{value-same, value-other}
 use Rattle.events.proofs.FreeLaws.{free-below, free-apart, given-none, given-skip, given-more, given-next, given-apart}
-use Rattle.slots.specs.Algorithm.Columns.{firstColumn, covers}
+use Rattle.slots.specs.Algorithm.Columns.{firstColumn, endColumn, covers}
 use Rattle.slots.specs.Algorithm.Spans.{hitSlot, usedBy, freeBy, Spans, Spanned, Granted, Slotted}
 use Rattle.slots.proofs.CoverLaws.{covers-of, grid-starts, start-le, coverage-is}
 
@@ -184,3 +185,18 @@ module _ (g : Grid) (small : g .m ≤ 128) where
     differ = given-apart (g .m) (g .n) start (covers g) (grid-starts g) 8 (nth slots) (omega arith)
         (given-at (c * 256 + 0) (g .n * 256 + 0) (nth slots) (ap (λ (x : ℕ). x * 256 + 0) e) (h .given));
   }
+
+-- ---- weights beside the cells change nothing of where the fragments lie
+
+module _ (m n : ℕ) (cells weights : List ℕ) where
+  pub spanned-weighted : {starts ends : List ℕ} → Spanned (matrixGrid m n cells) starts ends → Spanned (weightedGrid m n cells weights) starts ends
+  unfolding matrixGrid weightedGrid firstColumn endColumn
+  spanned-weighted sp = record { starts-size = sp .starts-size; ends-size = sp .ends-size; begins = sp .begins; stops = sp .stops }
+
+  pub shallow-weighted : NoneDeep (matrixGrid m n cells) → NoneDeep (weightedGrid m n cells weights)
+  unfolding matrixGrid weightedGrid coverage stretchCovers
+  shallow-weighted sh = record { shallow = sh .shallow }
+
+  pub slotted-weighted : {slots : List ℕ} → Slotted (matrixGrid m n cells) slots → Slotted (weightedGrid m n cells weights) slots
+  unfolding matrixGrid weightedGrid firstColumn endColumn covers
+  slotted-weighted sl = record { size = sl .size; low = sl .low; differ = record { apart = sl .differ .apart } }

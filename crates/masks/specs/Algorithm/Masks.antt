@@ -29,7 +29,7 @@ lineAt words i = record { a = record { low = nth words (i * 4); high = nth words
 
 -- the matrix with its columns as fragments
 unfoldable pub transposed : Grid → Grid
-transposed g = record { m = g .n; n = g .m; cell = λ c i. g .cell i c }
+transposed g = record { m = g .n; n = g .m; cell = λ c i. g .cell i c; weight = λ c. 1 }
 
 -- the words of a matrix of at most 128 fragments and columns
 pub record Masks (g : Grid) (words : List ℕ) : Type 0 where
@@ -44,4 +44,4 @@ lineCell false cells i c = getD cells (i * 128 + c) 0
 
 -- m lines of n places
 unfoldable pub lineGrid : Bool → ℕ → ℕ → List ℕ → Grid
-lineGrid columns m n cells = record { m = m; n = n; cell = lineCell columns cells }
+lineGrid columns m n cells = record { m = m; n = n; cell = lineCell columns cells; weight = λ i. 1 }

@@ -5,12 +5,22 @@ use mathlib.Core.List.{List}
 use Prim.Native.Nat.{ℕ, _+_, _*_, _≤_, _<_}
 use lib.Dec.{T}
 use lib.ListN.{length, getD}
+use Rattle.below.specs.Below.{nth}
 use Rattle.records.specs.Writing.{callsStart}
 use Rattle.conflicts.specs.Grid.{Grid, gapless}
 
--- the matrix of a flat list of cells, 128 to a fragment; it has at most 128 columns wherever it is used (`Matrix`)
+-- the matrix of a flat list of cells, 128 to a fragment; it has at most 128 columns wherever it is used (`Matrix`). Only C looks at weights, and takes them beside the cells
 unfoldable pub matrixGrid : ℕ → ℕ → List ℕ → Grid
-matrixGrid m n cells = record { m = m; n = n; cell = λ i c. getD cells (i * 128 + c) 0 }
+matrixGrid m n cells = record { m = m; n = n; cell = λ i c. getD cells (i * 128 + c) 0; weight = λ i. 1 }
+
+-- the same with the weights of a list
+unfoldable pub weightedGrid : ℕ → ℕ → List ℕ → List ℕ → Grid
+weightedGrid m n cells weights = record { m = m; n = n; cell = λ i c. getD cells (i * 128 + c) 0; weight = nth weights }
+
+-- room for 128 weights, none over 60
+pub record Weights (weights : List ℕ) : Type 0 where
+  pub size : length weights ≡ 128
+  pub most : (i : ℕ) → nth weights i ≤ 60
 
 -- a cell matrix of 128 cells to a fragment, with m fragments and n columns in use
 pub record Matrix (m n : ℕ) (cells : List ℕ) : Type 0 where

@@ -1,26 +1,32 @@
 -- The weights of the 256 side patterns of 8 slots, and what the events of the elimination make of them.
 -- Assumes nothing.
 use mathlib.Core.Path.{_≡_}
-use mathlib.Core.Bool.{Bool}
 use mathlib.Core.List.{List}
 use Prim.Native.Nat.{ℕ, _+_, _*_, _-_, _^_, _≤_, _<_, min}
-use lib.ListN.{getD, length}
-use Rattle.below.specs.Below.{if_then_else_, countBelow, _==_, _and_}
+use lib.ListN.{length}
+use Rattle.below.specs.Below.{nth, if_then_else_, sumBelow, _==_}
 use Rattle.conflicts.specs.Corrections.{sidePrice}
 use Rattle.ranks.specs.declared.rank.Rank.{Rank}
 use Rattle.ranks.specs.Algorithm.Weight.{top, place}
 use Rattle.ranks.specs.Algorithm.Reading.{code}
 use Rattle.events.specs.Algorithm.Slots.{digit}
 
--- slot b has digit d of the mask, and the letter
-unfoldable pub slotHas : List ℕ → ℕ → ℕ → ℕ → ℕ → Bool
-slotHas letters mask d letter b = digit 2 b mask == d and getD letters b 0 == letter
+-- the prices of a letter in the 8 slots, none over 60
+pub record Prices (prices : List ℕ) : Type 0 where
+  pub size : length prices ≡ 8
+  pub most : (b : ℕ) → nth prices b ≤ 60
 
--- what a mask costs at the letters of a column: over the two sides, the smaller count of A and B in the 8 slots
-unfoldable pub slotCost : List ℕ → ℕ → ℕ
-slotCost letters mask =
-    sidePrice (countBelow 8 (slotHas letters mask 0 1)) (countBelow 8 (slotHas letters mask 0 2))
-    + sidePrice (countBelow 8 (slotHas letters mask 1 1)) (countBelow 8 (slotHas letters mask 1 2))
+-- what slot b says of a side: its price where it has digit d of the mask
+unfoldable pub slotShare : List ℕ → ℕ → ℕ → ℕ → ℕ
+slotShare prices mask d b = if digit 2 b mask == d then nth prices b else 0
+
+-- what the slots with digit d of the mask come to
+unfoldable pub slotTotal : List ℕ → ℕ → ℕ → ℕ
+slotTotal prices mask d = sumBelow 8 (slotShare prices mask d)
+
+-- what a mask costs at the prices of A and of B in a column: over the two sides, the smaller total
+unfoldable pub slotCost : List ℕ → List ℕ → ℕ → ℕ
+slotCost ofA ofB mask = sidePrice (slotTotal ofA mask 0) (slotTotal ofB mask 0) + sidePrice (slotTotal ofA mask 1) (slotTotal ofB mask 1)
 
 -- the table has a place for each mask
 pub record Patterns (counts highs lows : List ℕ) : Type 0 where

@@ -4,8 +4,9 @@ use mathlib.Core.Path.{_≡_}
 use mathlib.Core.List.{List}
 use Prim.Native.Nat.{ℕ, _/_, _%_, _≤_, _<_}
 use lib.ListN.{length, getD}
-use Rattle.below.specs.Below.{if_then_else_, _<?_, _and_, tab}
-use Rattle.matrix.specs.Algorithm.Matrix.{matrixGrid}
+use Rattle.below.specs.Below.{nth, if_then_else_, _==_, _<?_, _and_, tab}
+use Rattle.records.specs.Record.{isCall}
+use Rattle.matrix.specs.Algorithm.Matrix.{weightedGrid}
 use Rattle.conflicts.specs.Corrections.{correctedCell}
 
 -- a side, 1 or 2, for each fragment
@@ -14,9 +15,16 @@ pub record OnSides (m : ℕ) (sides : List ℕ) : Type 0 where
   pub on : (i : ℕ) → i < m → (1 ≤ getD sides i 0) × (getD sides i 0 ≤ 2)
 
 -- a cell "after correction" at place k of the matrix, and 0 outside m × n
-unfoldable pub correctedAt : ℕ → ℕ → List ℕ → List ℕ → ℕ → ℕ
-correctedAt m n cells sides k = if k / 128 <? m and k % 128 <? n then correctedCell (matrixGrid m n cells) sides (k / 128) (k % 128) else 0
+unfoldable pub correctedAt : ℕ → ℕ → List ℕ → List ℕ → List ℕ → ℕ → ℕ
+correctedAt m n cells weights sides k = if k / 128 <? m and k % 128 <? n then correctedCell (weightedGrid m n cells weights) sides (k / 128) (k % 128) else 0
 
 -- the cells "after correction"
-unfoldable pub correctedCells : ℕ → ℕ → List ℕ → List ℕ → List ℕ
-correctedCells m n cells sides = tab 16384 (correctedAt m n cells sides)
+unfoldable pub correctedCells : ℕ → ℕ → List ℕ → List ℕ → List ℕ → List ℕ
+correctedCells m n cells weights sides = tab 16384 (correctedAt m n cells weights sides)
+
+-- a cell at place k where each call becomes its side's letter, by lists of the letters of both sides
+unfoldable pub letteredAt : ℕ → ℕ → List ℕ → List ℕ → List ℕ → List ℕ → ℕ → ℕ
+letteredAt m n cells sides first second k =
+    if k / 128 <? m and k % 128 <? n
+    then (if isCall (nth cells k) then (if nth sides (k / 128) == 1 then nth first (k % 128) else nth second (k % 128)) else nth cells k)
+    else 0

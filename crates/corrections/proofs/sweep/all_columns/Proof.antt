@@ -5,7 +5,7 @@ use Prim.Native.Nat.{ℕ, _+_, _-_, _≤_}
 use native.Mathlib.Nat.{le-refl}
 use native.Mathlib.Omega.{arith}
 use borrow.Author.Needs.{needs}
-use Rattle.matrix.specs.Algorithm.Matrix.{matrixGrid}
+use Rattle.matrix.specs.Algorithm.Matrix.{weightedGrid}
 use Rattle.ranks.specs.Algorithm.Tables.{at}
 use Rattle.events.specs.Algorithm.Events.{eventsFrom}
 use Rattle.slots.specs.Algorithm.Columns.{firstColumn}
@@ -16,19 +16,19 @@ use Rattle.corrections.proofs.sweep.all_columns.Statement.{statement}
 use Rattle.corrections.proofs.sweep.all_columns.Tie as tie
 
 abbrev Inv-loop : tie.InvT-loop
-Inv-loop m n cells starts ends slots counts₀ highs₀ lows₀ c₀ counts highs lows c =
+Inv-loop m n cells weights starts ends slots counts₀ highs₀ lows₀ c₀ counts highs lows c =
     (c ≤ n) × Patterns counts highs lows
-    × HoldsAll (matrixGrid m n cells) slots (eventsFrom (firstColumn (matrixGrid m n cells)) m c (n - c)) (at counts highs lows)
+    × HoldsAll (weightedGrid m n cells weights) slots (eventsFrom (firstColumn (weightedGrid m n cells weights)) m c (n - c)) (at counts highs lows)
 
 abbrev μ-loop : tie.MeasureT-loop
-μ-loop m n cells starts ends slots counts₀ highs₀ lows₀ c₀ counts highs lows c = c
+μ-loop m n cells weights starts ends slots counts₀ highs₀ lows₀ c₀ counts highs lows c = c
 
 loop-holds : tie.Need-loop-holds Inv-loop μ-loop
-loop-holds c = let s = c .before .before .before .before .before .before .before in (le-refl _, s .pre .1, s .pre .2)
+loop-holds c = let s = c .before .before .before .before .before .before .before .before in (le-refl _, s .pre .1, s .pre .2)
 
 column-requires : tie.Need-column-requires Inv-loop μ-loop
 column-requires c κs =
-    let s = c .before .before .before .before .before .before .before .before .before .before .before .before in
+    let s = c .before .before .before .before .before .before .before .before .before .before .before .before .before in
     let a = s .args in
     let l = c .before .before .before .before .loop in
     let le = l .inv .0 in
@@ -37,7 +37,7 @@ column-requires c κs =
       s .pre .0,
       l .inv .1,
       omega arith,
-      subst (λ (x : ℕ). HoldsAll (matrixGrid (a .m) (a .n) (a .cells .now)) (a .slots .now) (eventsFrom (firstColumn (matrixGrid (a .m) (a .n) (a .cells .now))) (a .m) x (a .n - x)) (at (l .counts) (l .highs) (l .lows))) e (l .inv .2),
+      subst (λ (x : ℕ). HoldsAll (weightedGrid (a .m) (a .n) (a .cells .now) (a .weights .now)) (a .slots .now) (eventsFrom (firstColumn (weightedGrid (a .m) (a .n) (a .cells .now) (a .weights .now))) (a .m) x (a .n - x)) (at (l .counts) (l .highs) (l .lows))) e (l .inv .2),
     )
 
 loop-again : tie.Need-loop-again Inv-loop μ-loop
@@ -46,12 +46,12 @@ loop-again c =
     (omega arith, record { counts-size = search needs; highs-size = search needs; lows-size = search needs }, c .before .before .before .before .before .before .column .ensures)
 
 returns : tie.Need-returns Inv-loop μ-loop
-unfolding matrixGrid
+unfolding weightedGrid
 returns c =
-    let s = c .before .before .before .before .before .before .before .before .before in
+    let s = c .before .before .before .before .before .before .before .before .before .before in
     let a = s .args in
     let l = c .before .loop in
-    holds-all (matrixGrid (a .m) (a .n) (a .cells .now)) (a .slots .now) (s .pre .0 .slotted) (l .c) (at (l .counts) (l .highs) (l .lows)) (omega arith) (l .inv .2)
+    holds-all (weightedGrid (a .m) (a .n) (a .cells .now) (a .weights .now)) (a .slots .now) (s .pre .0 .slotted) (l .c) (at (l .counts) (l .highs) (l .lows)) (omega arith) (l .inv .2)
 
 pub all-columns-spec : {M : Type 1} → statement M
 all-columns-spec =

@@ -1,70 +1,70 @@
--- `sweep::gather` meets its contract. The loop's invariant: the letters of the fragments passed are gathered.
+-- `sweep::gather` meets its contract. The loop's invariant: the prices of the fragments passed are gathered.
 -- Assumes nothing.
-use mathlib.Core.Path.{_≡_, refl, subst, ap, _∙_}
+use mathlib.Core.Path.{_≡_, refl, sym, subst, ap, _∙_}
 use mathlib.Core.List.{List}
-use Prim.Native.Nat.{ℕ, _-_, _≤_, zero-le}
+use Prim.Native.Nat.{ℕ, _+_, _-_, _≤_, _<_, zero-le}
 use native.Mathlib.Omega.{arith}
-use lib.ListN.{length}
+use lib.ListN.{length, getD}
 use borrow.Author.Needs.{needs}
-use Rattle.matrix.specs.Algorithm.Matrix.{matrixGrid}
+use Rattle.matrix.specs.Algorithm.Matrix.{weightedGrid}
 use Rattle.slots.specs.Algorithm.Spans.{Spanned}
-use Rattle.corrections.specs.Algorithm.Sweep.{Gathered}
-use Rattle.corrections.proofs.LetterLaws.{gathered-more, letters-long}
+use Rattle.corrections.specs.Algorithm.Sweep.{Gathered, GathersAll, withPrice}
+use Rattle.corrections.proofs.PriceLaws.{gathered-more, price-is, prices-long}
 use Rattle.corrections.proofs.sweep.gather.Statement.{statement}
 use Rattle.corrections.proofs.sweep.gather.Tie as tie
 
--- the letters of the first i fragments, of any matrix that has these spans and slots
-record Passed (m : ℕ) (cells starts ends slots : List ℕ) (c i : ℕ) (letters₀ letters : List ℕ) : Type 0 where
-  pub within : i ≤ m
-  pub long : length letters ≡ length letters₀
-  pub on : (n : ℕ) → Spanned (matrixGrid m n cells) starts ends → Gathered (matrixGrid m n cells) slots c 0 letters₀ → Gathered (matrixGrid m n cells) slots c i letters
+-- the prices of a letter of the first i fragments, of any matrix that has these spans and slots
+record Passed (m : ℕ) (cells weights starts ends slots : List ℕ) (c letter i : ℕ) (prices₀ prices : List ℕ) : Type 0 where
+  pub long : length prices ≡ length prices₀
+  pub on : (n : ℕ) → Spanned (weightedGrid m n cells weights) starts ends → Gathered (weightedGrid m n cells weights) slots c letter 0 prices₀
+      → Gathered (weightedGrid m n cells weights) slots c letter i prices
+
+module _ {m : ℕ} {cells weights starts ends slots : List ℕ} {c letter i : ℕ} {prices₀ prices : List ℕ} (h : Passed m cells weights starts ends slots c letter i prices₀ prices) where
+  -- one fragment more
+  more : {prices′ : List ℕ} → i < m → getD slots i 0 < 8 → prices′ ≡ withPrice cells weights starts ends slots c letter i prices → Passed m cells weights starts ends slots c letter (i + 1) prices₀ prices′
+  unfolding weightedGrid withPrice
+  more lt low e = record {
+    long = ap length e ∙ prices-long cells weights starts ends slots c letter i prices ∙ h .long;
+    on = λ n sp none. rw e (gathered-more (weightedGrid m n cells weights) slots c letter starts ends prices i _ sp lt (price-is m n cells weights c letter i) low (h .on n sp none));
+  }
+
+  -- all of them
+  whole : i ≡ m → GathersAll m cells weights starts ends slots c letter prices₀ prices
+  whole e = record { on = λ n sp none. subst (λ (k : ℕ). Gathered (weightedGrid m n cells weights) slots c letter k prices) e (h .on n sp none) }
 
 abbrev Inv-loop : tie.InvT-loop
-Inv-loop m cells starts ends slots letters₀ c i₀ letters i = Passed m cells starts ends slots c i letters₀ letters
+Inv-loop m cells weights starts ends slots a₀ b₀ c i₀ a b i =
+    (i ≤ m) × Passed m cells weights starts ends slots c 1 i a₀ a × Passed m cells weights starts ends slots c 2 i b₀ b
 
 abbrev μ-loop : tie.MeasureT-loop
-μ-loop m cells starts ends slots letters₀ c i₀ letters i = m - i
+μ-loop m cells weights starts ends slots a₀ b₀ c i₀ a b i = m - i
 
 loop-holds : tie.Need-loop-holds Inv-loop μ-loop
-loop-holds c = record { within = zero-le; long = refl; on = λ n sp h. h }
+loop-holds c = (zero-le, record { long = refl; on = λ n sp h. h }, record { long = refl; on = λ n sp h. h })
 
 gather-one-requires : tie.Need-gather-one-requires Inv-loop μ-loop
 gather-one-requires c κs =
-    let pre = c .before .before .before .before .before .before .before .before .pre in
-    let long = c .before .before .loop .inv .long in (
-      record {
-        cells-size = pre .1 .cells-size;
-        starts-size = pre .1 .starts-size;
-        ends-size = pre .1 .ends-size;
-        slots-size = pre .1 .slots-size;
-        letters-size = long ∙ pre .1 .letters-size;
-        low = pre .1 .low;
-        column = pre .1 .column;
-      },
-      let few = pre .0 in omega arith,
-    )
+    let pre = c .before .before .before .before .before .before .before .before .before .before .before .pre in
+    let inv = c .before .before .before .loop .inv in
+    let lt = c .before .before .loop-test .taken in
+    (pre .1, let few = pre .0 in omega arith, inv .1 .long ∙ pre .2, inv .2 .long ∙ pre .3)
 
 loop-again : tie.Need-loop-again Inv-loop μ-loop
-unfolding matrixGrid
 loop-again c =
-    let gather-one = c .before .before .gather-one in
-    let loop = c .before .before .before .before .before .loop in
-    let lt = c .before .before .before .before .loop-test .taken in
-    let start = c .before .before .before .before .before .before .before .before .before .before .before in
-    let a = start .args in
-    record {
-      within = omega arith;
-      long = ap length (gather-one .ensures) ∙ letters-long _ _ _ _ _ _ _ ∙ loop .inv .long;
-      on = λ n sp h. rw (gather-one .ensures) (gathered-more (matrixGrid (a .m) n (a .cells .now)) (a .cells .now) (a .starts .now) (a .ends .now) (a .slots .now) (a .c) (loop .letters) (loop .i) sp lt refl (start .pre .1 .low (loop .i)) (loop .inv .on n sp h));
-    }
+    let gather-one = c .before .before .before .before .gather-one in
+    let lt = c .before .before .before .before .before .before .before .loop-test .taken in
+    let loop = c .before .before .before .before .before .before .before .before .loop in
+    let pre = c .before .before .before .before .before .before .before .before .before .before .before .before .before .before .before .before .pre in
+    let low = pre .1 .low (loop .i) in
+    (omega arith, more (loop .inv .1) lt low (gather-one .ensures .0), more (loop .inv .2) lt low (gather-one .ensures .1))
 
 returns : tie.Need-returns Inv-loop μ-loop
 returns c =
-    let l = c .before .loop in
-    let a = c .before .before .before .before .before .before .before .args in
-    let le = l .inv .within in
-    let e : l .i ≡ a .m = omega arith in
-    record { on = λ n sp h. subst (λ (k : ℕ). Gathered (matrixGrid (a .m) n (a .cells .now)) (a .slots .now) (a .c) k (l .letters)) e (l .inv .on n sp h) }
+    let loop = c .before .loop in
+    let a = c .before .before .before .before .before .before .before .before .before .args in
+    let le = loop .inv .0 in
+    let e : loop .i ≡ a .m = omega arith in
+    (whole (loop .inv .1) e, whole (loop .inv .2) e)
 
 pub gather-spec : {M : Type 1} → statement M
 gather-spec =
@@ -77,5 +77,6 @@ gather-spec =
     (λ c. search needs)
     (λ c. search needs)
     loop-again
+    (λ c. search needs)
     (λ c. search needs)
     returns)

@@ -3,12 +3,12 @@
 use borrow.Author.Needs.{needs}
 use Prim.Native.Nat.{_-_}
 use Rattle.below.proofs.FillLaws.{Filled, filled-none, filled-more, filled-all}
-use Rattle.rewriting.specs.Algorithm.Letters.{correctedAt, correctedCells}
+use Rattle.rewriting.specs.Algorithm.Letters.{letteredAt}
 use Rattle.rewriting.proofs.letters.fill_corrected.Statement.{statement}
 use Rattle.rewriting.proofs.letters.fill_corrected.Tie as tie
 
 abbrev Inv-loop : tie.InvT-loop
-Inv-loop m n cells sides first second corrected₀ k₀ corrected k = Filled 16384 (correctedAt m n cells sides) k corrected
+Inv-loop m n cells sides first second corrected₀ k₀ corrected k = Filled 16384 (letteredAt m n cells sides first second) k corrected
 
 abbrev μ-loop : tie.MeasureT-loop
 μ-loop m n cells sides first second corrected₀ k₀ corrected k = 16384 - k
@@ -16,11 +16,11 @@ abbrev μ-loop : tie.MeasureT-loop
 loop-holds : tie.Need-loop-holds Inv-loop μ-loop
 loop-holds c =
     let start = c .before .before .before .before .before in
-    filled-none 16384 _ _ (start .pre .0 .2)
+    filled-none 16384 _ _ (start .pre .4)
 
 corrected-at-requires : tie.Need-corrected-at-requires Inv-loop μ-loop
 corrected-at-requires c κs =
-    let p = c .before .before .before .before .before .before .before .pre in ((p .0 .0, p .0 .1, c .loop-test .taken), p .1)
+    let p = c .before .before .before .before .before .before .before .pre in (p .0, p .1, p .2, p .3, c .loop-test .taken)
 
 slice-write-corrected : tie.Need-slice-write-corrected Inv-loop μ-loop
 slice-write-corrected c = let e = c .before .before .loop .inv .sized in search needs
@@ -34,7 +34,6 @@ same-length : tie.Need-same-length Inv-loop μ-loop
 same-length c = let e = c .before .loop .inv .sized in search needs
 
 returns : tie.Need-returns Inv-loop μ-loop
-unfolding correctedCells
 returns c = filled-all 16384 _ (c .before .loop .k) (c .before .loop .corrected) (c .before .loop .inv) (c .loop-test .left)
 
 pub fill-corrected-spec : {M : Type 1} → statement M

@@ -3,21 +3,21 @@
 use borrow.Author.Needs.{needs}
 use Prim.Native.Nat.{_-_}
 use Rattle.below.proofs.FillLaws.{Filled, filled-none, filled-more, filled-all}
-use Rattle.matrix.specs.Algorithm.Matrix.{matrixGrid}
+use Rattle.matrix.specs.Algorithm.Matrix.{weightedGrid}
 use Rattle.conflicts.specs.Corrections.{sideLetter}
 use Rattle.rewriting.proofs.letters.fill_letters.Statement.{statement}
 use Rattle.rewriting.proofs.letters.fill_letters.Tie as tie
 
 abbrev Inv-loop : tie.InvT-loop
-Inv-loop m cells sides s letters₀ c₀ letters c = Filled 128 (sideLetter (matrixGrid m 128 cells) sides s) c letters
+Inv-loop m cells weights sides s letters₀ c₀ letters c = Filled 128 (sideLetter (weightedGrid m 128 cells weights) sides s) c letters
 
 abbrev μ-loop : tie.MeasureT-loop
-μ-loop m cells sides s letters₀ c₀ letters c = 128 - c
+μ-loop m cells weights sides s letters₀ c₀ letters c = 128 - c
 
 loop-holds : tie.Need-loop-holds Inv-loop μ-loop
 loop-holds c =
-    let start = c .before .before .before in
-    filled-none 128 _ _ (start .pre .3)
+    let start = c .before .before .before .before in
+    filled-none 128 _ _ (start .pre .4)
 
 slice-write-letters : tie.Need-slice-write-letters Inv-loop μ-loop
 slice-write-letters c = let e = c .before .before .loop .inv .sized in search needs

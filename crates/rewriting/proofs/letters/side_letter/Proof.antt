@@ -8,7 +8,7 @@ use Rattle.rewriting.proofs.letters.side_letter.Tie as tie
 
 returns : tie.Need-returns
 unfolding sideLetter
-returns c = c .majority .ensures ∙ ap₂ majorityLetter (c .before .before .side-count .ensures) (c .before .side-count2 .ensures)
+returns c = c .majority .ensures ∙ ap₂ majorityLetter (c .before .before .letter-weight .ensures) (c .before .letter-weight2 .ensures)
 
 pub side-letter-spec : {M : Type 1} → statement M
 side-letter-spec = tie.close (tie.spec (λ c κs. search needs) (λ c κs. search needs) (λ c κs. search needs) returns)
