@@ -371,25 +371,26 @@ static const struct {
 
 /* ---- a case */
 
-/* a byte that no service has put there: another at each place */
-static uint8_t dirt(size_t place) { return (uint8_t)(157 + 31 * place); }
+/* made at the start: what an output holds before a call, as no service would write it. No output is longer */
+static uint8_t dirt[sizeof more_work];
 
-static void make_dirty(void *bytes, size_t length)
+static void make_dirt(void)
 {
-    for (size_t i = 0; i < length; i++)
-        ((uint8_t *)bytes)[i] = dirt(i);
+    for (size_t i = 0; i < sizeof dirt; i++)
+        dirt[i] = (uint8_t)(157 + 31 * i);
 }
 
+/* By memcmp first: work buffers are long, and many are compared. */
 static void same_bytes(const char *name, const char *buffer, const void *found, const void *expected, size_t length)
 {
-    const uint8_t *bytes = (const uint8_t *)found, *wanted = (const uint8_t *)expected;
-    for (size_t i = 0; i < length; i++) {
-        const uint8_t byte = wanted ? wanted[i] : dirt(i);
-        if (bytes[i] != byte) {
-            fprintf(stderr, "host: %s: byte %zu of the %s is %u, expected %u%s\n", name, i, buffer, bytes[i], byte, wanted ? "" : ", as before");
-            exit(1);
-        }
-    }
+    const uint8_t *bytes = (const uint8_t *)found, *wanted = expected ? (const uint8_t *)expected : dirt;
+    size_t i = 0;
+    if (memcmp(bytes, wanted, length) == 0)
+        return;
+    while (bytes[i] == wanted[i])
+        i++;
+    fprintf(stderr, "host: %s: byte %zu of the %s is %u, expected %u%s\n", name, i, buffer, bytes[i], wanted[i], expected ? "" : ", as before");
+    exit(1);
 }
 
 static void same_number(const char *name, const char *what, uint64_t found, uint64_t expected)
@@ -416,7 +417,7 @@ static void make_call(const struct row *row, int dirty)
         out[k].length = row->out[k].length;
         out[k].bytes = room(out[k].length);
         if (dirty)
-            make_dirty(out[k].bytes, out[k].length ? out[k].length : 1);
+            memcpy(out[k].bytes, dirt, out[k].length ? out[k].length : 1);
     }
     same_number(row->name, "what it returns", call(row->service, row->n, in, out), row->code);
     for (size_t k = 0; k < GIVEN; k++) {
@@ -597,6 +598,7 @@ static void test_numbers(void)
 
 int main(void)
 {
+    make_dirt();
     make_tables();
     make_stretches();
     make_far_apart();
