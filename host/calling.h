@@ -9,7 +9,7 @@
 
 enum service { UNPACK, PACK, FIND, CHECK, CONFLICT_COUNTS, SNPS, FRAGMENTS, CORRECTIONS, SERVICES };
 
-enum { GIVEN = 2, LENT = 3 }; /* the most inputs and outputs of a service */
+enum { GIVEN = 3, LENT = 3 }; /* the most inputs and outputs of a service */
 
 struct given {
     const void *bytes;
@@ -29,7 +29,7 @@ struct output {
 static const char *const service_names[SERVICES] = {"unpack", "pack", "find", "check", "conflict_counts", "S", "F", "C"};
 
 static const struct output service_outputs[SERVICES][LENT] = {
-    {{"cells", 1}, {"tags", 4}, {"", 0}},
+    {{"cells", 1}, {"tags", 4}, {"grades", 1}},
     {{"table", 1}, {"", 0}, {"", 0}},
     {{"", 0}, {"", 0}, {"", 0}},
     {{"answer", 1}, {"", 0}, {"", 0}},
@@ -44,7 +44,7 @@ static inline void exact_lengths(enum service service, size_t n, size_t m, size_
 {
     const size_t answer = haplotypes_answer_length(n, m), work = 2 * HAPLOTYPES_WORK, table = HAPLOTYPES_RECORD * m;
     const size_t exact[SERVICES][LENT] = {
-        {m * n, 4 * m, 0}, {table, 0, 0}, {0, 0, 0}, {answer, 0, 0}, {m * m, 0, 0}, {work, answer, 0}, {work, answer, 0}, {work, answer, table},
+        {m * n, 4 * m, m}, {table, 0, 0}, {0, 0, 0}, {answer, 0, 0}, {m * m, 0, 0}, {work, answer, 0}, {work, answer, 0}, {work, answer, table},
     };
     for (size_t k = 0; k < LENT; k++)
         lengths[k] = exact[service][k];
@@ -60,9 +60,11 @@ static inline uint64_t call(enum service service, size_t n, const struct given *
     const size_t numbers = out[0].length / 2;
     switch (service) {
     case UNPACK:
-        return haplotypes_unpack(n, first, length, (uint8_t *)out[0].bytes, out[0].length, (uint32_t *)out[1].bytes, out[1].length / 4);
+        return haplotypes_unpack(n, first, length, (uint8_t *)out[0].bytes, out[0].length, (uint32_t *)out[1].bytes, out[1].length / 4,
+                                 (uint8_t *)out[2].bytes, out[2].length);
     case PACK:
-        return haplotypes_pack(n, first, length, (const uint32_t *)in[1].bytes, in[1].length / 4, (uint8_t *)out[0].bytes, out[0].length);
+        return haplotypes_pack(n, first, length, (const uint32_t *)in[1].bytes, in[1].length / 4, (const uint8_t *)in[2].bytes, in[2].length,
+                               (uint8_t *)out[0].bytes, out[0].length);
     case FIND:
         return haplotypes_find((uint32_t)n, first, length);
     case CHECK:
@@ -90,6 +92,16 @@ static inline void *room(size_t length)
         exit(2);
     }
     return bytes;
+}
+
+/* A grade for the fragment at a position, where tests may take any: 15, 6, 13 and so on, and each once in sixteen. */
+static inline uint8_t mixed_grade(size_t position) { return (uint8_t)((15 + 7 * position) % 16); }
+
+/* Gives every whole record such a grade. */
+static inline void mix_grades(uint8_t *table, size_t length)
+{
+    for (size_t at = 0; at + HAPLOTYPES_RECORD <= length; at += HAPLOTYPES_RECORD)
+        table[at + 7] = mixed_grade(at / HAPLOTYPES_RECORD);
 }
 
 /* Reads a table of at most 128 fragments, and its columns, the largest start + span; false where that is not possible. */

@@ -4,7 +4,7 @@
  * Tables. A table has m fragments of 32 bytes each and n columns (SNPs), m and n at most 128. Its bytes tell m; n comes with the call. Numbers
  * in it are little-endian; columns and positions of fragments count from 0.
  *
- *   bytes 0-3   tag, another in each record         byte  7      0
+ *   bytes 0-3   tag, another in each record         byte  7      grade, 0 to 15
  *   bytes 4-5   start, the first called column      bytes 8-31   96 cells of two bits: 0 a hole, 1 A, 2 B
  *   byte  6     span, 0 to 96
  *
@@ -13,6 +13,13 @@
  * has span 0 and start 0; stored tables may have it, and all services take it but pack, which does not write it.
  *
  * Records rise by start, and at one start by tag, as 32-bit numbers. A fragment without calls stands by its tag among those at start 0.
+ *
+ * Grades. A fragment's grade, as the sequencer states it, decides what it costs C to correct one of its calls, its weight:
+ *
+ *   grade    0   1   2   3   4   5   6   7   8   9  10  11  12  13  14  15
+ *   weight   1   1   2   3   4   6   8  10  13  16  20  25  31  38  46  60
+ *
+ * C finds the least total of weights, and no other answer depends on grades. Unpack and pack carry them, and C's table keeps them.
  *
  * Answers. An answer has 3n + 2m bytes, in five sections:
  *
@@ -23,8 +30,8 @@
  *   blocks        m   the position of the block's first fragment, 255 for a removed fragment. A chain of kept fragments, each in conflict with the
  *                     next on a kept column (after correction, for C), joins a block. Sides of different blocks say nothing of each other
  *
- * What a call returns. check: a verdict, 0 for yes, 1 for no, 1000 * number + place for a refusal. find: an offset. The others: a count, below
- * 2^32, or 2^32 * number + place for a refusal. The two forms differ, so each has a type, and readers by the type's name, below.
+ * What a call returns. check: a verdict, 0 for yes, 1 for no, 1000 * number + place for a refusal. find: an offset. The others: a count (C: a total
+ * of weights), below 2^32, or 2^32 * number + place for a refusal. The two forms differ, so each has a type, and readers by the type's name, below.
  *
  * What is written. A refusal, and a no from check, leave every byte as it was. Every other call writes every byte of every output, whatever stood
  * there before: outputs need not be cleared. Nothing else is written.
@@ -43,7 +50,7 @@
  *   unpack, check, conflict_counts   3, 1, 2, 11; then the records from 0 on, each by 4, 5, 6, 7, 9, 13
  *   S, F                             3, 1, 2, 10, 11; then the records from 0 on, each by 4, 5, 6, 7, 8, 9, 13
  *   C                                3, 1, 2, 10, 11; then the records as for check; then 12
- *   pack                             3, 1, 2, 11; then the fragments from 0 on, each by 6, 17, 4, 9, 13
+ *   pack                             3, 1, 2, 11; then the fragments from 0 on, each by 5, 6, 17, 4, 9, 13
  *   find                             refuses nothing
  */
 #ifndef PIKONDAUR_HAPLOTYPES_H
@@ -60,6 +67,8 @@ enum {
     HAPLOTYPES_RECORD = 32,         /* bytes of a fragment in a table */
     HAPLOTYPES_MOST_FRAGMENTS = 128,
     HAPLOTYPES_MOST_COLUMNS = 128,
+    HAPLOTYPES_HIGHEST_GRADE = 15,
+    HAPLOTYPES_MOST_TOTAL = 30720,  /* no total of C is over it: 60 for half of 8 calls in each of 128 columns */
     HAPLOTYPES_WORK = 32768         /* the least numbers of a work buffer: 64 KiB */
 };
 
@@ -76,11 +85,11 @@ enum {
 /* The refusals by their numbers. The place is the fragment's position for 4 to 9, 13 and 17, the lowest such column for 12, and else 0. */
 enum {
     HAPLOTYPES_ACCEPTED = 0,            /* none */
-    HAPLOTYPES_RAGGED = 1,              /* bytes not a multiple of 32; for pack, cells not m * n */
+    HAPLOTYPES_RAGGED = 1,              /* bytes not a multiple of 32; for pack, cells not m * n or grades not m */
     HAPLOTYPES_TOO_MANY_FRAGMENTS = 2,  /* m over 128 */
     HAPLOTYPES_TOO_MANY_SNPS = 3,       /* n over 128 */
     HAPLOTYPES_OUT_OF_FRAME = 4,        /* span over 96; start + span over n; span 0 and start not 0; for pack, calls over more than 96 columns */
-    HAPLOTYPES_STRAY_BITS = 5,          /* byte 7, or a cell after the span, is not 0 */
+    HAPLOTYPES_STRAY_BITS = 5,          /* a grade over 15; a cell after the span that is not 0 */
     HAPLOTYPES_UNKNOWN_CALL = 6,        /* code 3 in the span; for pack, a cell over 2 */
     HAPLOTYPES_OPEN_END = 7,            /* the span's first or last cell is a hole */
     HAPLOTYPES_GAPPED = 8,              /* by S and F alone: a hole between two calls */
@@ -121,17 +130,20 @@ typedef uint64_t haplotypes_count;   /* what unpack, pack, conflict_counts, S, F
 #define HAPLOTYPES_SERVICE
 #endif
 
-/* The table's m * n cells, one byte each by fragment and then column, and its m tags. Returns m. A record without calls gives n holes, which pack
- * will not write again (17).
- * Exact: cells_length is m * n and tags_length is m, or the call is refused (11). */
+/* The table's m * n cells, one byte each by fragment and then column, its m tags and its m grades, one byte each. Returns m. A record without calls
+ * gives n holes, which pack will not write again (17).
+ * Exact: cells_length is m * n, and tags_length and grades_length are m, or the call is refused (11). */
 HAPLOTYPES_SERVICE haplotypes_count haplotypes_unpack(size_t n, const uint8_t *table, size_t table_length,
-                                                      uint8_t *cells, size_t cells_length, uint32_t *tags, size_t tags_length);
+                                                      uint8_t *cells, size_t cells_length, uint32_t *tags, size_t tags_length,
+                                                      uint8_t *grades, size_t grades_length);
 
-/* The table of m fragments, m being tags_length, from their cells and tags: the reverse of unpack, for tables in which every span is over 0. Returns m.
- * Exact: cells_length is m * n, or the call is refused (1), and table_length is 32 * m (11). Each fragment has a call (17). The fragments are given in
- * the order of the records (13): they rise by their first called column, and then by tag. */
+/* The table of m fragments, m being tags_length, from their cells, tags and grades: the reverse of unpack, for tables in which every span is over 0.
+ * Returns m.
+ * Exact: cells_length is m * n and grades_length is m, or the call is refused (1), and table_length is 32 * m (11). No grade is over 15 (5). Each
+ * fragment has a call (17). The fragments are given in the order of the records (13): they rise by their first called column, and then by tag. */
 HAPLOTYPES_SERVICE haplotypes_count haplotypes_pack(size_t n, const uint8_t *cells, size_t cells_length,
-                                                    const uint32_t *tags, size_t tags_length, uint8_t *table, size_t table_length);
+                                                    const uint32_t *tags, size_t tags_length, const uint8_t *grades, size_t grades_length,
+                                                    uint8_t *table, size_t table_length);
 
 /* The byte at which the first whole record with the tag starts; table_length where none has it.
  * Takes any bytes, whole records or not, in any order; what follows the last whole record is not looked at. */
@@ -159,8 +171,9 @@ HAPLOTYPES_SERVICE haplotypes_count haplotypes_least_snp_removal(size_t n, const
 HAPLOTYPES_SERVICE haplotypes_count haplotypes_least_fragment_removal(size_t n, const uint8_t *table, size_t table_length,
                                                                       uint16_t *work, size_t work_length, uint8_t *answer, size_t answer_length);
 
-/* C: the fewest calls to correct, A to B or B to A, so that the table is error-free. Returns their number, which is that of the cells in which the
- * corrected table differs from the one given; no other bit differs.
+/* C: the calls of least total to correct, A to B or B to A, so that the table is error-free. Returns the total, at most HAPLOTYPES_MOST_TOTAL: the sum
+ * of the fragments' weights over the cells in which the corrected table differs from the one given, and so their number where all grades are 0. No other
+ * bit differs. On each column and side the letter whose fragments weigh less together is corrected, and B where they weigh the same.
  * Lengths and work as for S, and corrected_length is table_length (11). At most 8 fragments, each from its first to its last call, cover a column,
  * or the call is refused (12). */
 HAPLOTYPES_SERVICE haplotypes_count haplotypes_least_corrections(size_t n, const uint8_t *table, size_t table_length,

@@ -32,6 +32,7 @@ static const size_t told[SERVICES] = {
 /* the call to make */
 static uint8_t table[HAPLOTYPES_RECORD * HAPLOTYPES_MOST_FRAGMENTS], cells[HAPLOTYPES_MOST_FRAGMENTS * HAPLOTYPES_MOST_COLUMNS];
 static uint32_t tags[HAPLOTYPES_MOST_FRAGMENTS];
+static uint8_t grades[HAPLOTYPES_MOST_FRAGMENTS];
 static size_t length, columns;
 static enum service service;
 static struct given in[GIVEN];
@@ -151,9 +152,11 @@ static void set_call(enum service which)
     if (which == PACK) {
         memcpy(cells, outputs, m * columns);
         memcpy(tags, outputs + OUTPUT, 4 * m);
+        memcpy(grades, outputs + 2 * OUTPUT, m);
     }
     in[0] = which == PACK ? (struct given){cells, m * columns} : (struct given){table, length};
     in[1] = (struct given){tags, 4 * m};
+    in[2] = (struct given){grades, m};
     exact_lengths(which, columns, m, lengths);
     for (size_t k = 0; k < LENT; k++)
         out[k] = (struct lent){outputs + k * OUTPUT, lengths[k]};
