@@ -1,5 +1,5 @@
-/* Calls all services from several threads at once, on shared tables and outputs of their own: what each call returns and writes must be what it does
- * in one thread. A thread has the stack that F takes by haplotypes.h, and room for its own frames.
+/* Calls all services from several threads at once, on shared tables, with grades, and outputs of their own: what each call returns and writes must be
+ * what it does in one thread. A thread has the stack that F takes by haplotypes.h, and room for its own frames.
  * usage: threads ROUNDS TABLE..   prints the number of calls made at once */
 #define _POSIX_C_SOURCE 200809L
 #include "calling.h"
@@ -78,6 +78,7 @@ static void add_table(const char *name)
     size_t length, n;
     if (!read_table(name, table, &length, &n) || length == 0)
         fail(name, "is no table");
+    mix_grades(table, length);
     for (int service = UNPACK; service < SERVICES; service++)
         add_job((enum service)service, n, table, length);
 }

@@ -1,5 +1,6 @@
-/* The stack that each service takes, called from C on the tables of the files. Each call is made in a process of its own, so that it also finds the C
- * library's memset by name, as a program's first call does, in a thread whose stack has an inaccessible page and then a watched area below it:
+/* The stack that each service takes, called from C on the tables of the files, as they are and with grades. Each call is made in a process of its own, so
+ * that it also finds the C library's memset by name, as a program's first call does, in a thread whose stack has an inaccessible page and then a watched
+ * area below it:
  *   - on a large stack filled with one byte: what it changed is what it takes, and must be at most what haplotypes.h tells;
  *   - with just the bytes that haplotypes.h tells free: it must return the same;
  *   - on each stack of whole pages that is too small: it must end by SIGSEGV at that page, and the area below must be as it was.
@@ -209,6 +210,20 @@ static size_t too_small(size_t least)
     return count;
 }
 
+/* Every service on the table: raises the most that each takes, and counts the stacks that were too small. */
+static size_t measure(size_t *most)
+{
+    size_t small = 0;
+    for (int which = UNPACK; which < SERVICES; which++) {
+        set_call((enum service)which);
+        const size_t bytes = taken();
+        small += too_small(bytes);
+        if (most[which] < bytes)
+            most[which] = bytes;
+    }
+    return small;
+}
+
 int main(int count, char **names)
 {
     size_t most[SERVICES] = {0}, small = 0;
@@ -216,13 +231,9 @@ int main(int count, char **names)
     for (int i = 1; i < count; i++) {
         if (!read_table(names[i], table, &length, &columns))
             fail(names[i], "is no table");
-        for (int which = UNPACK; which < SERVICES; which++) {
-            set_call((enum service)which);
-            const size_t bytes = taken();
-            small += too_small(bytes);
-            if (most[which] < bytes)
-                most[which] = bytes;
-        }
+        small += measure(most);
+        mix_grades(table, length);
+        small += measure(most);
     }
     for (int which = UNPACK; which < SERVICES; which++) {
         if (most[which] == 0)
