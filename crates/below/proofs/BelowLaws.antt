@@ -3,8 +3,8 @@
 use mathlib.Core.Path.{_≡_, refl, sym, ap, ap₂, subst, _∙_}
 use mathlib.Core.Logic.{_⊎_, inl, inr}
 use mathlib.Core.Bool.{Bool, true, false, not}
-use Prim.Native.Nat.{ℕ, zero, suc, _+_, _≤_, _<_, zero-le, max}
-use native.Mathlib.Nat.{le-of-suc-le-suc, not-suc-le-zero, eq-or-lt-of-le, le-refl, add-le-add, zero-add}
+use Prim.Native.Nat.{ℕ, zero, suc, _+_, _*_, _≤_, _<_, zero-le, max}
+use native.Mathlib.Nat.{le-of-suc-le-suc, not-suc-le-zero, eq-or-lt-of-le, le-refl, add-le-add, zero-add, suc-mul}
 use native.Mathlib.Numerals.{add-one}
 use native.Mathlib.Omega.{arith}
 use lib.Dec.{T, leb→le, le→leb, nleb→lt, ltb→lt, lt→ltb, nltb→le, eqb→eq, eqb-refl}
@@ -294,6 +294,12 @@ pub sum-zero : (n : ℕ) → sumBelow n (λ i. 0) ≡ 0
 unfolding sumBelow
 sum-zero zero = refl
 sum-zero (suc n) = rw (sum-zero n)
+
+-- a sum of numbers that are at most k
+pub sum-most : (n : ℕ) (f : ℕ → ℕ) (k : ℕ) → ((i : ℕ) → i < n → f i ≤ k) → sumBelow n f ≤ n * k
+unfolding sumBelow
+sum-most zero f k h = zero-le
+sum-most (suc n) f k h = let rest = sum-most n f k (λ i l. h i (omega arith)) in let last = h n (omega arith) in omega (arith, suc-mul n k)
 
 pub sum-add : (n : ℕ) (f g : ℕ → ℕ) → sumBelow n (λ i. f i + g i) ≡ sumBelow n f + sumBelow n g
 unfolding sumBelow

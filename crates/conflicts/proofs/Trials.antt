@@ -392,6 +392,37 @@ gradeTrials =
     ∷ allKeep 1 (withGrades (15 ∷ 16 ∷ []) pair) (refused 5 1)
     ++ allKeep 1 (withGrades (255 ∷ 0 ∷ []) pair) (refused 5 0)
 
+-- two Bs against one A at column 0, in three fragments that the other columns hold on one side, and a fourth on the other
+outvoted : List ℕ
+outvoted = tableFrom 1 "AAA, BAA, BAA, -BB"
+
+-- the same with the Bs corrected, and with the A
+allA : List ℕ
+allA = tableFrom 1 "AAA, AAA, AAA, -BB"
+
+allB : List ℕ
+allB = tableFrom 1 "BAA, BAA, BAA, -BB"
+
+-- T-07: C's total, sides and letters by the weights; corrected records keep their grades
+pub weightTrials : List Trial
+unfolding outvoted allA allB four printed
+weightTrials =
+    -- grades 15, 0, 0, 15: two corrections of weight 1 cost less than one of weight 60
+    corrects (COn 3 (withGrades (15 ∷ 0 ∷ 0 ∷ 15 ∷ []) outvoted)) "2 111 AAA -BB 1112 0,0,0,0" (withGrades (15 ∷ 0 ∷ 0 ∷ 15 ∷ []) allA)
+    -- grade 0 throughout, and grade 1: the fewest calls, the A
+    ∷ corrects (COn 3 outvoted) "1 111 BAA -BB 1112 0,0,0,0" allB
+    ∷ corrects (COn 3 (withGrades (1 ∷ 0 ∷ 1 ∷ 0 ∷ []) outvoted)) "1 111 BAA -BB 1112 0,0,0,0" (withGrades (1 ∷ 0 ∷ 1 ∷ 0 ∷ []) allB)
+    -- equal weights, 2 against 1 + 1 and 16 against 13 + 3, turn B to A; one less and the A changes
+    ∷ corrects (COn 3 (withGrades (2 ∷ 0 ∷ 1 ∷ 15 ∷ []) outvoted)) "2 111 AAA -BB 1112 0,0,0,0" (withGrades (2 ∷ 0 ∷ 1 ∷ 15 ∷ []) allA)
+    ∷ corrects (COn 3 (withGrades (9 ∷ 8 ∷ 3 ∷ 15 ∷ []) outvoted)) "16 111 AAA -BB 1112 0,0,0,0" (withGrades (9 ∷ 8 ∷ 3 ∷ 15 ∷ []) allA)
+    ∷ corrects (COn 3 (withGrades (9 ∷ 8 ∷ 4 ∷ 15 ∷ []) outvoted)) "16 111 BAA -BB 1112 0,0,0,0" (withGrades (9 ∷ 8 ∷ 4 ∷ 15 ∷ []) allB)
+    -- weights settle the sides too: of AA, AB, BA, BB the two light ones are corrected
+    ∷ corrects (COn 2 four) "2 11 AA BB 1112 0,0,0,0" (tableFrom 1 "AA, AA, AA, BB")
+    ∷ corrects (COn 2 (withGrades (0 ∷ 15 ∷ 15 ∷ 0 ∷ []) four)) "2 11 AB BA 1121 0,0,0,0" (withGrades (0 ∷ 15 ∷ 15 ∷ 0 ∷ []) (tableFrom 1 "AB, AB, BA, AB"))
+    -- the printed table with a heavy second fragment: another call is corrected
+    ∷ corrects (COn 3 (withGrades (0 ∷ 15 ∷ 0 ∷ []) printed)) "1 111 BAA -BB 112 0,0,0" (withGrades (0 ∷ 15 ∷ 0 ∷ []) (tableFrom 10 "BA-, BAA, -BB"))
+    ∷ []
+
 -- how often two fragments disagree (paper 02, T-06)
 pub countTrials : List Trial
 unfolding printed same three callless apart
@@ -530,8 +561,8 @@ hostTrials =
 
 -- all trials but paper 01's
 pub otherTrials : List Trial
-unfolding aboveTrials answerTrials blockTrials pairTrials mateTrials risingTrials emptyTrials gradeTrials countTrials ruleTrials workTrials unpackTrials packTrials findTrials hostTrials
-otherTrials = aboveTrials ++ answerTrials ++ blockTrials ++ pairTrials ++ mateTrials ++ risingTrials ++ emptyTrials ++ gradeTrials ++ countTrials ++ ruleTrials ++ workTrials ++ unpackTrials ++ packTrials ++ findTrials ++ hostTrials
+unfolding aboveTrials answerTrials blockTrials pairTrials mateTrials risingTrials emptyTrials gradeTrials weightTrials countTrials ruleTrials workTrials unpackTrials packTrials findTrials hostTrials
+otherTrials = aboveTrials ++ answerTrials ++ blockTrials ++ pairTrials ++ mateTrials ++ risingTrials ++ emptyTrials ++ gradeTrials ++ weightTrials ++ countTrials ++ ruleTrials ++ workTrials ++ unpackTrials ++ packTrials ++ findTrials ++ hostTrials
 
 -- all of these
 pub others-pass : failing 0 otherTrials ≡ []

@@ -121,6 +121,10 @@ module _ (g : Grid) where
         (enter-apart (g .m) (g .n) start (covers g) (grid-starts g) (nth slots) (sl .differ) c q (g .m - (f + 1)) f fits lt e)
         (subst (λ (x : ℕ). HoldsAll g slots (partOf start (g .m) c x (g .m - (f + 1)) q) v) (add-one f) h) (λ mask ml. sweep .done mask zero-le ml))
 
+    -- the events of fragment f on, as a counter has them that steps down to f - 1
+    pub part-next : (c q f : ℕ) (v : ℕ → ℕ) → 0 < f → HoldsAll g slots (partOf start (g .m) c f (g .m - f) q) v → HoldsAll g slots (partOf start (g .m) c (f - 1 + 1) (g .m - (f - 1 + 1)) q) v
+    part-next c q f v some h = let e : f ≡ f - 1 + 1 = omega arith in subst (λ (x : ℕ). HoldsAll g slots (partOf start (g .m) c x (g .m - x) q) v) e h
+
     -- fragment f, by what enter_if left
     pub step-if : (starts ends : List ℕ) → Spanned g starts ends → (c q f : ℕ) (v u : ℕ → ℕ) → c + suc q ≤ g .n → f < g .m → EntersIf (nth starts f) (nth slots f) c f v u
         → HoldsAll g slots (partOf start (g .m) c (f + 1) (g .m - (f + 1)) q) v → HoldsAll g slots (partOf start (g .m) c f (g .m - f) q) u

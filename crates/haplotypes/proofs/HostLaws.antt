@@ -5,17 +5,18 @@ use mathlib.Core.Bool.{Bool, true, false}
 use mathlib.Core.Logic.{inl, inr}
 use mathlib.Core.List.{List, [], _∷_, _++_, List·Memᴰ, List·Memᴰ·head, List·Memᴰ·tail, List·Memᴰ·not-nil, List·Memᴰ·cases-cons, List·Memᴰ·append-cases}
 use Prim.Native.Nat.{ℕ, zero, suc, _+_, _*_, _/_, _%_, _≤_, _<_, zero-le}
-use native.Mathlib.Nat.{mul-comm, mul-le-mul, suc-mul, le-refl, lt-of-le-of-lt}
+use native.Mathlib.Nat.{mul-comm, mul-le-mul, le-refl, lt-of-le-of-lt}
 use native.Mathlib.Omega.{arith}
 use lib.Arith.{digits-div, digits-mod}
 use lib.ListN.{length}
-use Rattle.below.specs.Below.{if_then_else_, _<?_, concat, tab, countBelow, sumBelow}
+use Rattle.below.specs.Below.{if_then_else_, _<?_, concat, tab}
 use Rattle.records.specs.Table.{fragments, partStart, position}
 use Rattle.records.specs.declared.Outcome.{Outcome}
 use Rattle.records.specs.declared.Outcome.the-variants.{Refused}
 use Rattle.records.specs.Outcome.{Verdict, accepted, refused, outcomeOf}
 use Rattle.records.specs.Rules.{Rule, rule, decide, earlierRules, spanRules, recordRules, gaplessRules, tableRules, gaplessTableRules, sizeRules}
-use Rattle.below.proofs.BelowLaws.{if-true, if-false, lt-<?, le-isnt, count-bound}
+use Rattle.below.proofs.BelowLaws.{if-ind, if-true, if-false, lt-<?, le-isnt, sum-most, count-bound}
+use Rattle.records.proofs.GradeLaws.{weight-range}
 use Rattle.below.proofs.MemberLaws.{concat-at, tab-at}
 use Rattle.records.proofs.RuleLaws.{decide-append, decide-accepted, decide-refused}
 use Rattle.records.proofs.AcceptedLaws.{few-columns, few-fragments}
@@ -23,7 +24,7 @@ use Rattle.conflicts.specs.Choice.{zeros, keepAll}
 use Rattle.conflicts.specs.Grid.{Grid, gridOf, coverage}
 use Rattle.conflicts.specs.Sides.{errorFree}
 use Rattle.conflicts.specs.Removal.{snpKeepMarks, fragmentKeepMarks}
-use Rattle.conflicts.specs.Corrections.{changedCells, cellCount, differs}
+use Rattle.conflicts.specs.Corrections.{correctionCost, differs, cellTotal, changedTotal}
 use Rattle.conflicts.specs.Services.{workRules, lengthRule, depthRules, packSizeRules, ungradedRules, fragmentRules, unpackRules, packRules, checkRules, conflictCountsRules, removalRules, correctionRules, unpackLeaves, packLeaves, findLeaves, checkLeaves, conflictCountsLeaves, snpRemovalLeaves, fragmentRemovalLeaves, correctionsLeaves, lentStages, correctionStages}
 use Rattle.conflicts.specs.Host.{hostNumber, hostRead, HostFits}
 use Rattle.conflicts.proofs.Minimality.{snp-in, fragments-in}
@@ -173,18 +174,14 @@ module _ {base : ℕ} (wide : 128 < base) where
 
 -- ---- the outcomes
 
--- counts are at most 16,384
 zeros-le : (marks : List ℕ) → zeros marks ≤ length marks
 unfolding zeros
 zeros-le marks = count-bound (length marks) _
 
-changed-le : (g h : Grid) → changedCells g h ≤ g .m * g .n
-unfolding changedCells cellCount sumBelow
-changed-le g h = go (g .m)
-  where
-    go : (m : ℕ) → sumBelow m (λ i. countBelow (g .n) (differs g h i)) ≤ m * g .n
-    go zero = zero-le
-    go (suc m) = let r = go m in let c = count-bound (g .n) (differs g h m) in let e = suc-mul m (g .n) in omega arith
+-- totals are at most 60 for each cell
+total-le : (g h : Grid) → ((i : ℕ) → i < g .m → g .weight i ≤ 60) → changedTotal g h ≤ g .m * (g .n * 60)
+unfolding changedTotal cellTotal correctionCost
+total-le g h light = sum-most (g .m) _ (g .n * 60) λ i hi. sum-most (g .n) _ 60 λ c hc. if-ind (λ x. x ≤ 60) (differs g h i c) (λ t. light i hi) (λ t. zero-le)
 
 wide-host : 128 < 4294967296
 wide-host = omega arith
@@ -234,7 +231,7 @@ corrections-fits n table answer output work = sized-fits wide-host n table _ _ �
       (stage-more _ _ (length-named wide-host answer _ _ none-named)
       (stage-more _ _ (length-named wide-host output _ _ none-named)
       (stage-more _ _ (table-named wide-host n table hm) (stage-more _ _ (depth-named wide-host (gridOf n table) hn) (no-stage wide-host))))),
-  lt-of-le-of-lt (changed-le (gridOf n table) _) (lt-of-le-of-lt (mul-le-mul hm hn) (omega arith)),
+  lt-of-le-of-lt (total-le (gridOf n table) _ (λ i h. weight-range _ .1)) (lt-of-le-of-lt (mul-le-mul hm (mul-le-mul hn (le-refl 60))) (omega arith)),
 )
 
 -- ---- where find's part starts

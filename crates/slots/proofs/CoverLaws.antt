@@ -4,13 +4,13 @@ use mathlib.Core.Path.{_≡_, refl, ap, ap₂}
 use mathlib.Core.Bool.{Bool, true, false}
 use mathlib.Core.List.{List}
 use Prim.Native.Nat.{ℕ, zero, suc, _+_, _*_, _-_, _≤_, _<_, zero-le}
-use native.Mathlib.Nat.{min-le-left, min-le-right, suc-mul}
+use native.Mathlib.Nat.{min-le-left, min-le-right}
 use native.Mathlib.Omega.{arith}
 use lib.Dec.{T}
 use Rattle.below.specs.Below.{nth, if_then_else_, bit, sumBelow, countBelow, _==_, _<?_, _≤?_, _and_}
 use Rattle.records.specs.Record.{isCall}
 use Rattle.records.specs.Writing.{callsEnd}
-use Rattle.below.proofs.BelowLaws.{both, left-of, right-of, ==-eq, <?-lt, lt-<?, ≤?-le, le-≤?, same-test, anyBelow-at, anyBelow-of, sum-ext, sum-le, sum-add, count-ext, firstBelow-le, firstBelow-at, firstBelow-least}
+use Rattle.below.proofs.BelowLaws.{both, left-of, right-of, ==-eq, <?-lt, lt-<?, ≤?-le, le-≤?, same-test, anyBelow-at, anyBelow-of, sum-ext, sum-le, sum-add, sum-most, count-ext, firstBelow-le, firstBelow-at, firstBelow-least}
 use Rattle.records.proofs.ExtentLaws.{endBelow-le, endBelow-at, endBelow-past, call-of}
 use Rattle.conflicts.specs.Grid.{Grid, stretchCovers, coverage}
 use Rattle.conflicts.specs.Corrections.{correctionCost, sidePrice, letterWeight, columnCost, cost}
@@ -40,11 +40,6 @@ weigh-le (suc m) p w light = step (p m) (countBelow m p) (weigh-le m p w (λ i h
     step : (b : Bool) (k : ℕ) {x w : ℕ} → x ≤ k * 60 → w ≤ 60 → x + (if b then w else 0) ≤ (k + bit b) * 60
     step true k a h = omega arith
     step false k a h = omega arith
-
-each-le : (n : ℕ) (f : ℕ → ℕ) (k : ℕ) → ((i : ℕ) → i < n → f i ≤ k) → sumBelow n f ≤ n * k
-unfolding sumBelow
-each-le zero f k h = zero-le
-each-le (suc n) f k h = let rest = each-le n f k (λ i l. h i (omega arith)) in let last = h n (omega arith) in omega (arith, suc-mul n k)
 
 module _ (g : Grid) where
   -- ---- covers
@@ -186,4 +181,4 @@ module _ (g : Grid) where
   -- "8 × 60 / 2 × 128": no side list costs more, on at most 128 columns
   pub cost-within : ((i : ℕ) → i < g .m → g .weight i ≤ 60) → NoneDeep g → g .n ≤ 128 → (sides : List ℕ) → cost 2 g sides ≤ 30720
   unfolding cost
-  cost-within light sh narrow sides = let h = each-le (g .n) (λ c. columnCost 2 g c (nth sides)) 240 (λ c hc. cost-bound light c (nth sides) hc sh) in omega arith
+  cost-within light sh narrow sides = let h = sum-most (g .n) (λ c. columnCost 2 g c (nth sides)) 240 (λ c hc. cost-bound light c (nth sides) hc sh) in omega arith

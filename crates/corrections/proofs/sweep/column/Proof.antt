@@ -1,6 +1,6 @@
 -- `sweep::column` meets its contract. The loop's invariant: the table holds the least weights from the events of fragment f at the column on.
 -- Assumes nothing.
-use mathlib.Core.Path.{_≡_, refl, sym, subst, _∙_}
+use mathlib.Core.Path.{_≡_, refl, sym, _∙_}
 use mathlib.Core.List.{List}
 use lib.ListN.{replicate}
 use Prim.Native.Nat.{ℕ, suc, _+_, _-_, _≤_}
@@ -15,7 +15,7 @@ use Rattle.patterns.specs.Algorithm.Patterns.{Patterns, Prices}
 use Rattle.corrections.specs.Algorithm.Sweep.{Ready, Gathered, GathersAll, HoldsAll}
 use Rattle.slots.proofs.GrantLaws.{zeros-at}
 use Rattle.corrections.proofs.PriceLaws.{gathered-none, gathered-prices, price-most}
-use Rattle.corrections.proofs.StepLaws.{column-room, part-room, step-charge, step-if, step-column}
+use Rattle.corrections.proofs.StepLaws.{column-room, part-room, part-next, step-charge, step-if, step-column}
 use Rattle.corrections.proofs.sweep.column.Statement.{statement}
 use Rattle.corrections.proofs.sweep.column.Tie as tie
 
@@ -95,12 +95,11 @@ enter-if-requires c κs =
     let some = c .before .before .before .loop-test .taken in
     let few = r .matrix .rows in
     let lt = s .pre .2 in
-    let e : l .f ≡ l .f - 1 + 1 = omega arith in
     let inside : suc (l .f - 1) ≤ a .m = omega arith in
     let fits : a .c + suc (a .n - (a .c + 1)) ≤ a .n = omega arith in
     let g = weightedGrid (a .m) (a .n) (a .cells .now) (a .weights .now) in
     let v = at (l .counts) (l .highs) (l .lows) in
-    let held = subst (λ (x : ℕ). HoldsAll g (a .slots .now) (partOf (firstColumn g) (a .m) (a .c) x (a .m - x) (a .n - (a .c + 1))) v) e (l .inv .2) in (
+    let held = part-next g (a .slots .now) (r .slotted) (a .c) (a .n - (a .c + 1)) (l .f) v some (l .inv .2) in (
       r .spanned .starts-size,
       r .slotted .size,
       l .inv .1,
@@ -124,12 +123,11 @@ loop-again c =
     let r = s .pre .0 in
     let le = l .inv .0 in
     let lt = s .pre .2 in
-    let e : l .f ≡ l .f - 1 + 1 = omega arith in
     let inside : suc (l .f - 1) ≤ a .m = omega arith in
     let fits : a .c + suc (a .n - (a .c + 1)) ≤ a .n = omega arith in
     let g = weightedGrid (a .m) (a .n) (a .cells .now) (a .weights .now) in
     let v = at (l .counts) (l .highs) (l .lows) in
-    let held = subst (λ (x : ℕ). HoldsAll g (a .slots .now) (partOf (firstColumn g) (a .m) (a .c) x (a .m - x) (a .n - (a .c + 1))) v) e (l .inv .2) in (
+    let held = part-next g (a .slots .now) (r .slotted) (a .c) (a .n - (a .c + 1)) (l .f) v some (l .inv .2) in (
       omega arith,
       record { counts-size = search needs; highs-size = search needs; lows-size = search needs },
       step-if g (a .slots .now) (r .slotted) (a .starts .now) (a .ends .now) (r .spanned) (a .c) (a .n - (a .c + 1)) (l .f - 1) v _ fits inside (enter-if .ensures) held,
