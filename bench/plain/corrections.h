@@ -1,10 +1,17 @@
-// The least corrections: the elimination over columns that at most 8 fragments cover.
+// The corrections of least total weight: the elimination over columns that at most 8 fragments cover.
 #ifndef CORRECTIONS_H
 #define CORRECTIONS_H
 #include "phasing.h"
 #include "ranks.h"
 
 enum { SLOTS = 8, MASKS = 1 << SLOTS };
+
+// What a correction costs in a fragment of each grade.
+static const uint8_t WEIGHTS[GRADES] = {1, 1, 2, 3, 4, 6, 8, 10, 13, 16, 20, 25, 31, 38, 46, 60};
+
+static void fill_weights(const uint8_t *table, size_t m, uint8_t *weights) {
+    for (size_t i = 0; i < m; i++) weights[i] = WEIGHTS[grade_of(table + RECORD * i)];
+}
 
 // Each fragment's first call and one past its last, between which it covers every column, and its slot, which no other has that covers one of these.
 typedef struct {
@@ -51,20 +58,36 @@ static void fill_slots(size_t m, size_t n, spans *s) {
         }
 }
 
-// The letters of column c, slot by slot.
-static void gather(size_t m, const uint8_t *cells, const spans *s, size_t c, uint8_t *letters) {
-    memset(letters, HOLE, SLOTS);
+// What it costs to correct a slot's A at a column, and its B: the fragment's weight, and 0 where it has not that letter.
+typedef struct {
+    uint8_t a[SLOTS], b[SLOTS];
+} prices;
+
+// The prices of column c, slot by slot.
+static void gather(size_t m, const uint8_t *cells, const uint8_t *weights, const spans *s, size_t c, prices *p) {
+    memset(p, 0, sizeof *p);
     for (size_t i = 0; i < m; i++)
-        if (s->starts[i] <= c && c < s->ends[i]) letters[s->slots[i]] = cells[i * MOST + c];
+        if (s->starts[i] <= c && c < s->ends[i]) {
+            uint8_t code = cells[i * MOST + c];
+            if (code == A) p->a[s->slots[i]] = weights[i];
+            if (code == B) p->b[s->slots[i]] = weights[i];
+        }
 }
 
 static inline uint32_t lesser(uint32_t a, uint32_t b) { return a < b ? a : b; }
 
-// What a side pattern costs at the letters of a column.
-static uint32_t mask_cost(const uint8_t *letters, size_t mask) {
-    uint32_t calls[2][3] = {{0}};
-    for (size_t b = 0; b < SLOTS; b++) calls[mask >> b & 1][letters[b]]++;
-    return lesser(calls[0][A], calls[0][B]) + lesser(calls[1][A], calls[1][B]);
+// What a side pattern costs at the prices of a column.
+static uint32_t mask_cost(const prices *p, size_t mask) {
+    uint32_t a1 = 0, b1 = 0, a2 = 0, b2 = 0;
+    for (size_t k = 0; k < SLOTS; k++)
+        if (mask >> k & 1) {
+            a2 += p->a[k];
+            b2 += p->b[k];
+        } else {
+            a1 += p->a[k];
+            b1 += p->b[k];
+        }
+    return lesser(a1, b1) + lesser(a2, b2);
 }
 
 // Fragment f enters at slot b: side 1, or side 2 where that costs less.
@@ -78,15 +101,15 @@ static void enter(ranks t, size_t f, size_t b) {
 }
 
 // The first side list of least cost.
-static void least_cost_sides(size_t m, size_t n, const uint8_t *cells, spans *s, uint8_t *sides) {
+static void least_cost_sides(size_t m, size_t n, const uint8_t *cells, const uint8_t *weights, spans *s, uint8_t *sides) {
     uint16_t counts[MASKS] = {0};
     uint64_t highs[MASKS] = {0}, lows[MASKS] = {0};
-    uint8_t letters[SLOTS];
+    prices p;
     ranks t = {counts, highs, lows};
     fill_slots(m, n, s);
     for (size_t c = n; c-- > 0;) {
-        gather(m, cells, s, c, letters);
-        for (size_t mask = 0; mask < MASKS; mask++) counts[mask] += mask_cost(letters, mask);
+        gather(m, cells, weights, s, c, &p);
+        for (size_t mask = 0; mask < MASKS; mask++) counts[mask] += mask_cost(&p, mask);
         for (size_t f = m; f-- > 0;)
             if (s->starts[f] == c) enter(t, f, s->slots[f]);
     }
@@ -94,17 +117,17 @@ static void least_cost_sides(size_t m, size_t n, const uint8_t *cells, spans *s,
     for (size_t p = 0; p < m; p++) sides[p] = 1 + rank_digit(r, p);
 }
 
-// Turns the rarer letter of a column and side; on equal counts the Bs become A. How many calls it turns.
-static size_t correct(size_t m, uint8_t *cells, const uint8_t *sides, uint8_t side, size_t c) {
-    size_t calls[3] = {0}, changed = 0;
+// Turns the lighter letter of a column and side; on equal weights the Bs become A. The weight of the calls that it turns.
+static size_t correct(size_t m, uint8_t *cells, const uint8_t *weights, const uint8_t *sides, uint8_t side, size_t c) {
+    size_t totals[3] = {0}, changed = 0;
     for (size_t i = 0; i < m; i++)
-        if (sides[i] == side) calls[cells[i * MOST + c]]++;
-    uint8_t letter = calls[A] < calls[B] ? B : A;
+        if (sides[i] == side) totals[cells[i * MOST + c]] += weights[i];
+    uint8_t letter = totals[A] < totals[B] ? B : A;
     for (size_t i = 0; i < m; i++) {
         uint8_t *cell = &cells[i * MOST + c];
         if (sides[i] != side || *cell == HOLE || *cell == letter) continue;
         *cell = letter;
-        changed++;
+        changed += weights[i];
     }
     return changed;
 }
@@ -125,19 +148,20 @@ static void rewrite(const uint8_t *table, size_t m, const uint8_t *cells, uint8_
 static outcome least_corrections(size_t n, const uint8_t *table, size_t length, uint16_t *work, size_t work_length, uint8_t *answer, uint8_t *corrected) {
     outcome rest = table_fault(n, table, length);
     if (rest.number != 0) return rest;
-    size_t m = rest.value, count = 0;
-    uint8_t cells[MATRIX], cols[MOST], sides[MOST] = {0};
+    size_t m = rest.value, total = 0;
+    uint8_t cells[MATRIX], weights[MOST], cols[MOST], sides[MOST] = {0};
     spans s;
     memset(cols, 1, MOST);
     fill_cells(table, m, MOST, cells);
+    fill_weights(table, m, weights);
     fill_spans(m, n, cells, &s);
     size_t deep = first_deep(m, n, &s);
     if (deep < n) return refused(12, deep);
-    least_cost_sides(m, n, cells, &s, sides);
-    for (size_t c = 0; c < n; c++) count += correct(m, cells, sides, 1, c) + correct(m, cells, sides, 2, c);
+    least_cost_sides(m, n, cells, weights, &s, sides);
+    for (size_t c = 0; c < n; c++) total += correct(m, cells, weights, sides, 1, c) + correct(m, cells, weights, sides, 2, c);
     fill_answer(m, n, cells, cols, sides, answer);
     rewrite(table, m, cells, corrected);
     memset(work, 0, work_length * sizeof *work);
-    return accepted(count);
+    return accepted(total);
 }
 #endif

@@ -1,4 +1,4 @@
-// Pack: cells and tags to a table's records.
+// Pack: cells, tags and grades to a table's records.
 #ifndef PACKING_H
 #define PACKING_H
 #include "records.h"
@@ -15,8 +15,9 @@ static bool tag_repeats(const uint32_t *tags, size_t i) {
     return false;
 }
 
-// Fragment i by 6, 17, 4, 9, 13. `last` is the order of the fragment before it, and then its own.
-static outcome fragment_fault(size_t n, const uint8_t *row, const uint32_t *tags, size_t i, uint64_t *last) {
+// Fragment i by 5, 6, 17, 4, 9, 13. `last` is the order of the fragment before it, and then its own.
+static outcome fragment_fault(size_t n, const uint8_t *row, const uint32_t *tags, const uint8_t *grades, size_t i, uint64_t *last) {
+    if (grades[i] >= GRADES) return refused(5, i);
     if (any_unknown(n, row)) return refused(6, i);
     size_t end = past_calls(n, row);
     if (end == 0) return refused(17, i);
@@ -30,32 +31,35 @@ static outcome fragment_fault(size_t n, const uint8_t *row, const uint32_t *tags
 }
 
 // The sizes by 3, 1, 2, 11, then the fragments: the first fault, or their number.
-static outcome pack_fault(size_t n, const uint8_t *cells, size_t cells_length, const uint32_t *tags, size_t m, size_t length) {
+static outcome pack_fault(size_t n, const uint8_t *cells, size_t cells_length, const uint32_t *tags, size_t m, const uint8_t *grades, size_t grades_length,
+                          size_t length) {
     if (n > MOST) return refused(3, 0);
-    if (cells_length != m * n) return refused(1, 0);
+    if (cells_length != m * n || grades_length != m) return refused(1, 0);
     if (m > MOST) return refused(2, 0);
     if (length != m * RECORD) return refused(11, 0);
     uint64_t last = 0;
     for (size_t i = 0; i < m; i++) {
-        outcome fault = fragment_fault(n, cells + i * n, tags, i, &last);
+        outcome fault = fragment_fault(n, cells + i * n, tags, grades, i, &last);
         if (fault.number != 0) return fault;
     }
     return accepted(m);
 }
 
-static void write_record(uint32_t tag, size_t n, const uint8_t *row, uint8_t *record) {
+static void write_record(uint32_t tag, uint8_t grade, size_t n, const uint8_t *row, uint8_t *record) {
     size_t start = first_call(n, row), span = past_calls(n, row) - start;
     memset(record, 0, RECORD);
     for (size_t k = 0; k < 4; k++) record[k] = tag >> 8 * k;
     record[4] = start;
     record[6] = span;
+    record[7] = grade;
     for (size_t k = 0; k < span; k++) record[8 + k / 4] |= row[start + k] << 2 * (k % 4);
 }
 
-static outcome pack(size_t n, const uint8_t *cells, size_t cells_length, const uint32_t *tags, size_t m, uint8_t *table, size_t length) {
-    outcome rest = pack_fault(n, cells, cells_length, tags, m, length);
+static outcome pack(size_t n, const uint8_t *cells, size_t cells_length, const uint32_t *tags, size_t m, const uint8_t *grades, size_t grades_length,
+                    uint8_t *table, size_t length) {
+    outcome rest = pack_fault(n, cells, cells_length, tags, m, grades, grades_length, length);
     if (rest.number != 0) return rest;
-    for (size_t i = 0; i < m; i++) write_record(tags[i], n, cells + i * n, table + RECORD * i);
+    for (size_t i = 0; i < m; i++) write_record(tags[i], grades[i], n, cells + i * n, table + RECORD * i);
     return rest;
 }
 #endif

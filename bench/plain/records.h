@@ -6,7 +6,7 @@
 #include <stdint.h>
 #include <string.h>
 
-enum { MOST = 128, RECORD = 32, CELLS = 96, MATRIX = MOST * MOST };
+enum { MOST = 128, RECORD = 32, CELLS = 96, MATRIX = MOST * MOST, GRADES = 16 };
 enum { HOLE = 0, A = 1, B = 2, NO_CALL = 3 };
 
 // An acceptance has number 0 and a count, a refusal a number and a place.
@@ -24,6 +24,7 @@ static inline uint32_t tag_of(const uint8_t *record) {
 
 static inline size_t start_of(const uint8_t *record) { return record[4] | (size_t)record[5] << 8; }
 static inline size_t span_of(const uint8_t *record) { return record[6]; }
+static inline uint8_t grade_of(const uint8_t *record) { return record[7]; }
 static inline uint8_t cell_of(const uint8_t *record, size_t i) { return record[8 + i / 4] >> 2 * (i % 4) & 3; }
 static inline bool is_call(uint8_t code) { return code == A || code == B; }
 
@@ -49,7 +50,7 @@ static bool out_of_frame(size_t n, const uint8_t *record) {
 }
 
 static bool stray_bits(const uint8_t *record) {
-    if (record[7] != 0) return true;
+    if (grade_of(record) >= GRADES) return true;
     for (size_t i = span_of(record); i < CELLS; i++)
         if (cell_of(record, i) != HOLE) return true;
     return false;
@@ -132,12 +133,15 @@ static void fill_cells(const uint8_t *table, size_t m, size_t width, uint8_t *ce
     }
 }
 
-static outcome unpack(size_t n, const uint8_t *table, size_t length, uint8_t *cells, uint32_t *tags) {
+static outcome unpack(size_t n, const uint8_t *table, size_t length, uint8_t *cells, uint32_t *tags, uint8_t *grades) {
     outcome rest = table_fault(n, table, length);
     if (rest.number != 0) return rest;
     size_t m = rest.value;
     fill_cells(table, m, n, cells);
-    for (size_t i = 0; i < m; i++) tags[i] = tag_of(table + RECORD * i);
+    for (size_t i = 0; i < m; i++) {
+        tags[i] = tag_of(table + RECORD * i);
+        grades[i] = grade_of(table + RECORD * i);
+    }
     return accepted(m);
 }
 

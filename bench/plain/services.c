@@ -7,8 +7,9 @@
 #include "removals.h"
 
 typedef struct {
-    outcome (*unpack)(size_t n, const uint8_t *table, size_t length, uint8_t *cells, uint32_t *tags);
-    outcome (*pack)(size_t n, const uint8_t *cells, size_t cells_length, const uint32_t *tags, size_t m, uint8_t *table, size_t length);
+    outcome (*unpack)(size_t n, const uint8_t *table, size_t length, uint8_t *cells, uint32_t *tags, uint8_t *grades);
+    outcome (*pack)(size_t n, const uint8_t *cells, size_t cells_length, const uint32_t *tags, size_t m, const uint8_t *grades, size_t grades_length,
+                    uint8_t *table, size_t length);
     size_t (*find)(uint32_t tag, const uint8_t *table, size_t length);
     outcome (*check)(size_t n, const uint8_t *table, size_t length, uint8_t *answer);
     outcome (*least_snp_removal)(size_t n, const uint8_t *table, size_t length, uint16_t *work, size_t work_length, uint8_t *answer);

@@ -51,6 +51,7 @@ pub struct Buffers {
     pub table: Guarded<u8>,
     pub cells: Guarded<u8>,
     pub tags: Guarded<u32>,
+    pub grades: Guarded<u8>,
     pub answer: Guarded<u8>,
     pub corrected: Guarded<u8>,
     pub work: Guarded<u16>,
@@ -63,6 +64,7 @@ impl Buffers {
             table: Guarded::dirty("table", MOST * RECORD, || random.next() as u8),
             cells: Guarded::dirty("cells", MOST * MOST, || random.next() as u8),
             tags: Guarded::dirty("tags", MOST, || random.next() as u32),
+            grades: Guarded::dirty("grades", MOST, || random.next() as u8),
             answer: Guarded::dirty("answer", answer_length(MOST, MOST), || random.next() as u8),
             corrected: Guarded::dirty("corrected", MOST * RECORD, || random.next() as u8),
             work: Guarded::dirty("work", WORK, || random.next() as u16),
@@ -75,6 +77,7 @@ impl Buffers {
         self.table.all.copy_from_slice(&other.table.all);
         self.cells.all.copy_from_slice(&other.cells.all);
         self.tags.all.copy_from_slice(&other.tags.all);
+        self.grades.all.copy_from_slice(&other.grades.all);
         self.answer.all.copy_from_slice(&other.answer.all);
         self.corrected.all.copy_from_slice(&other.corrected.all);
         self.work.all.copy_from_slice(&other.work.all);
@@ -86,6 +89,7 @@ impl Buffers {
         (self.table.difference(&other.table, but))
             .or_else(|| self.cells.difference(&other.cells, but))
             .or_else(|| self.tags.difference(&other.tags, but))
+            .or_else(|| self.grades.difference(&other.grades, but))
             .or_else(|| self.answer.difference(&other.answer, but))
             .or_else(|| self.corrected.difference(&other.corrected, but))
             .or_else(|| self.work.difference(&other.work, but))

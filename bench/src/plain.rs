@@ -13,8 +13,9 @@ struct PlainOutcome {
     value: usize,
 }
 
-type Unpack = unsafe extern "C" fn(usize, *const u8, usize, *mut u8, *mut u32) -> PlainOutcome;
-type Pack = unsafe extern "C" fn(usize, *const u8, usize, *const u32, usize, *mut u8, usize) -> PlainOutcome;
+type Unpack = unsafe extern "C" fn(usize, *const u8, usize, *mut u8, *mut u32, *mut u8) -> PlainOutcome;
+type Pack =
+    unsafe extern "C" fn(usize, *const u8, usize, *const u32, usize, *const u8, usize, *mut u8, usize) -> PlainOutcome;
 type Find = unsafe extern "C" fn(u32, *const u8, usize) -> usize;
 type Check = unsafe extern "C" fn(usize, *const u8, usize, *mut u8) -> PlainOutcome;
 type Removal = unsafe extern "C" fn(usize, *const u8, usize, *mut u16, usize, *mut u8) -> PlainOutcome;
@@ -65,15 +66,22 @@ static WEIGHTS: Mutex<()> = Mutex::new(());
 
 fn plain(build: &Build, call: &Call, b: &mut Buffers) -> Outcome {
     let n = call.n;
-    let (table, cells, tags) = (b.table.lent(), b.cells.lent(), b.tags.lent());
+    let (table, cells, tags, grades) = (b.table.lent(), b.cells.lent(), b.tags.lent(), b.grades.lent());
     let (answer, corrected, work) = (b.answer.lent(), b.corrected.lent(), b.work.lent());
     let (records, length) = (table.as_mut_ptr(), table.len());
     let (numbers, room) = (work.as_mut_ptr(), work.len());
     // Of every call: it writes no more than a table of 128 fragments and 128 columns asks for, and that much is lent.
     let outcome = unsafe {
         match call.service {
-            Service::Unpack => (build.unpack)(n, records, length, cells.as_mut_ptr(), tags.as_mut_ptr()),
-            Service::Pack => (build.pack)(n, cells.as_ptr(), cells.len(), tags.as_ptr(), tags.len(), records, length),
+            Service::Unpack => {
+                let (cells, tags, grades) = (cells.as_mut_ptr(), tags.as_mut_ptr(), grades.as_mut_ptr());
+                (build.unpack)(n, records, length, cells, tags, grades)
+            }
+            Service::Pack => {
+                let (codes, m, graded) = (cells.len(), tags.len(), grades.len());
+                let (cells, tags, grades) = (cells.as_ptr(), tags.as_ptr(), grades.as_ptr());
+                (build.pack)(n, cells, codes, tags, m, grades, graded, records, length)
+            }
             Service::Find => PlainOutcome { number: 0, value: (build.find)(call.tag, records, length) },
             Service::Check => (build.check)(n, records, length, answer.as_mut_ptr()),
             Service::S => (build.least_snp_removal)(n, records, length, numbers, room, answer.as_mut_ptr()),

@@ -42,7 +42,7 @@ impl Service {
     /// The buffers that it writes where it accepts.
     pub fn written(self) -> &'static [&'static str] {
         match self {
-            Service::Unpack => &["cells", "tags"],
+            Service::Unpack => &["cells", "tags", "grades"],
             Service::Pack => &["table"],
             Service::Find => &[],
             Service::Check => &["answer"],
@@ -83,8 +83,8 @@ pub fn library(call: &Call, b: &mut Buffers) -> Outcome {
     let n = call.n;
     let table = b.table.lent();
     match call.service {
-        Service::Unpack => haplotypes::unpack(n, table, b.cells.lent(), b.tags.lent()),
-        Service::Pack => haplotypes::pack(n, b.cells.lent(), b.tags.lent(), table),
+        Service::Unpack => haplotypes::unpack(n, table, b.cells.lent(), b.tags.lent(), b.grades.lent()),
+        Service::Pack => haplotypes::pack(n, b.cells.lent(), b.tags.lent(), b.grades.lent(), table),
         Service::Find => {
             Outcome::Accepted(haplotypes::find(call.tag, table).as_ptr() as usize - table.as_ptr() as usize)
         }
