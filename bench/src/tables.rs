@@ -14,8 +14,10 @@ pub const CELLS: usize = 96;
 const PAIR: usize = 3;
 /// The most fragments over a column that C accepts.
 const DEPTH: usize = 8;
+/// The highest grade.
+const HIGHEST: usize = 15;
 pub const A: u8 = 1;
-const B: u8 = 2;
+pub const B: u8 = 2;
 
 #[derive(Clone, Copy, PartialEq, Eq, Debug)]
 pub enum Kind {
@@ -38,10 +40,16 @@ pub enum Kind {
     Ends,
     /// All at column 0 and so in order by their tags alone, most of them without calls.
     Front,
+    /// The fragments of a shallow table, with grades at random; all others but the next two have grade 0.
+    Graded,
+    /// Those of shallow mates, with grades at random.
+    GradedMates,
+    /// Those of a deep table, all of the highest grade.
+    Heavy,
 }
 
 impl Kind {
-    pub const ALL: [Kind; 16] = {
+    pub const ALL: [Kind; 19] = {
         use Kind::*;
         [
             Typical,
@@ -60,13 +68,16 @@ impl Kind {
             ShallowMates,
             Ends,
             Front,
+            Graded,
+            GradedMates,
+            Heavy,
         ]
     };
 
     /// Whether C accepts its tables, whatever the seed.
     pub fn is_within_depth(self) -> bool {
         use Kind::*;
-        matches!(self, Empty | Single | Shallow | Deep | ShallowMates | Front)
+        matches!(self, Empty | Single | Shallow | Deep | ShallowMates | Front | Graded | GradedMates | Heavy)
     }
 
     /// Whether its fragments are mate pairs, each with a hole between the mates.
@@ -76,9 +87,23 @@ impl Kind {
 
     fn longest_mate(self) -> Option<usize> {
         match self {
-            Kind::Mates | Kind::ShallowMates => Some(CELLS),
+            Kind::Mates | Kind::ShallowMates | Kind::GradedMates => Some(CELLS),
             Kind::Ends => Some(1),
             _ => None,
+        }
+    }
+
+    /// Whether its fragments have other grades than 0.
+    #[cfg(test)]
+    pub fn is_graded(self) -> bool {
+        self.grades() != (0..=0)
+    }
+
+    fn grades(self) -> RangeInclusive<usize> {
+        match self {
+            Kind::Graded | Kind::GradedMates => 0..=HIGHEST,
+            Kind::Heavy => HIGHEST..=HIGHEST,
+            _ => 0..=0,
         }
     }
 
@@ -94,15 +119,22 @@ impl Kind {
             Kind::Uniform => (96..=96, 0, AllA, Anywhere),
             Kind::Empty => (0..=0, 0, AllA, Anywhere),
             Kind::Single => (1..=1, 0, AllA, Diagonal),
-            Kind::Shallow => (4..=10, 20, Haplotypes, Limited),
-            Kind::Deep => (1..=96, 0, AtRandom, Tiled),
+            Kind::Shallow | Kind::Graded => (4..=10, 20, Haplotypes, Limited),
+            Kind::Deep | Kind::Heavy => (1..=96, 0, AtRandom, Tiled),
             Kind::Drawn => return drawn(random),
             Kind::Mates => (16..=96, 20, Haplotypes, Anywhere),
-            Kind::ShallowMates => (PAIR..=96, 20, Haplotypes, TiledPairs),
+            Kind::ShallowMates | Kind::GradedMates => (PAIR..=96, 20, Haplotypes, TiledPairs),
             Kind::Ends => (16..=96, 20, Haplotypes, Anywhere),
             Kind::Front => (1..=96, 20, Haplotypes, Left),
         };
-        Parameters { spans, errors_per_mille, letters, places, longest_mate: self.longest_mate() }
+        Parameters {
+            spans,
+            errors_per_mille,
+            letters,
+            places,
+            longest_mate: self.longest_mate(),
+            grades: self.grades(),
+        }
     }
 }
 
@@ -110,6 +142,7 @@ impl fmt::Display for Kind {
     fn fmt(&self, out: &mut fmt::Formatter) -> fmt::Result {
         match self {
             Kind::ShallowMates => out.write_str("shallow mates"),
+            Kind::GradedMates => out.write_str("graded mates"),
             _ => out.write_str(&format!("{self:?}").to_lowercase()),
         }
     }
@@ -146,6 +179,7 @@ struct Parameters {
     places: Places,
     /// The most calls of each of two mates; none for fragments without a hole.
     longest_mate: Option<usize>,
+    grades: RangeInclusive<usize>,
 }
 
 fn drawn(random: &mut Random) -> Parameters {
@@ -153,7 +187,7 @@ fn drawn(random: &mut Random) -> Parameters {
     let errors_per_mille = if random.below(2) == 1 { 0 } else { random.below(100) };
     let letters = [Letters::Haplotypes, Letters::AtRandom, Letters::AllA][random.below(3)];
     let places = [Places::Anywhere, Places::Limited, Places::Tiled][random.below(3)];
-    Parameters { spans: a.min(b)..=a.max(b), errors_per_mille, letters, places, longest_mate: None }
+    Parameters { spans: a.min(b)..=a.max(b), errors_per_mille, letters, places, longest_mate: None, grades: 0..=0 }
 }
 
 /// The records, and what unpack makes of them.
@@ -161,6 +195,7 @@ pub struct Table {
     pub records: Vec<u8>,
     pub cells: Vec<u8>,
     pub tags: Vec<u32>,
+    pub grades: Vec<u8>,
 }
 
 impl Table {
@@ -216,10 +251,9 @@ impl Generator {
     }
 
     fn place(&mut self, i: usize, depth: &mut [usize; MOST]) -> (usize, usize) {
-        let (places, least, most) =
-            (self.parameters.places, *self.parameters.spans.start(), *self.parameters.spans.end());
+        let places = self.parameters.places;
         for tries in 1.. {
-            let drawn = least + self.random.below(most - least + 1);
+            let drawn = within(&mut self.random, &self.parameters.spans);
             let span = match places {
                 Places::Limited if tries > 1000 => 0,
                 Places::Left if i % (MOST / DEPTH) > 0 => 0,
@@ -297,19 +331,26 @@ impl Generator {
         }
         let mut tagged: Vec<_> = tags.into_iter().zip(self.fragments).collect();
         tagged.sort_by_key(|(tag, fragment)| (fragment.start, *tag));
-        let mut table = Table { records: vec![0; MOST * RECORD], cells: vec![0; MOST * MOST], tags: Vec::new() };
+        let (records, cells) = (vec![0; MOST * RECORD], vec![0; MOST * MOST]);
+        let mut table = Table { records, cells, tags: Vec::new(), grades: Vec::new() };
         let rows = table.records.chunks_mut(RECORD).zip(table.cells.chunks_mut(MOST));
         for ((tag, fragment), (record, cells)) in tagged.iter().zip(rows) {
             let Fragment { start, codes } = fragment;
             record[..4].copy_from_slice(&tag.to_le_bytes());
             record[4] = *start as u8;
             record[6] = codes.len() as u8;
+            record[7] = within(&mut self.random, &self.parameters.grades) as u8;
             codes.iter().enumerate().for_each(|(i, code)| record[8 + i / 4] |= code << (2 * (i % 4)));
             cells[*start..start + codes.len()].copy_from_slice(codes);
             table.tags.push(*tag);
+            table.grades.push(record[7]);
         }
         table
     }
+}
+
+fn within(random: &mut Random, range: &RangeInclusive<usize>) -> usize {
+    range.start() + random.below(range.end() - range.start() + 1)
 }
 
 /// Raises the depth of the columns where that leaves none over 8.
@@ -323,13 +364,15 @@ fn fits(depth: &mut [usize]) -> bool {
 
 #[cfg(test)]
 mod tests {
+    use super::Kind::*;
     use super::*;
     use haplotypes::{unpack, Outcome};
 
-    /// FNV-1a over the kinds with holes or those without, and seeds 1 to 5.
-    fn sum(gapped: bool) -> u64 {
-        let kinds = Kind::ALL.into_iter().filter(|kind| kind.is_gapped() == gapped);
-        let tables = kinds.flat_map(|kind| (1..=5).map(move |seed| table(kind, seed)));
+    /// FNV-1a over the kinds with grades or those without, of these the ones with holes or the ones without, and seeds
+    /// 1 to 5.
+    fn sum(graded: bool, gapped: bool) -> u64 {
+        let of_these = |kind: &Kind| (kind.is_graded(), kind.is_gapped()) == (graded, gapped);
+        let tables = Kind::ALL.into_iter().filter(of_these).flat_map(|kind| (1..=5).map(move |seed| table(kind, seed)));
         let bytes = tables.flat_map(|table| table.records);
         bytes.fold(0xcbf29ce484222325, |sum, byte| (sum ^ byte as u64).wrapping_mul(0x100000001b3))
     }
@@ -337,7 +380,19 @@ mod tests {
     /// The figures of docs/PERFORMANCE.md are those of the very same tables.
     #[test]
     fn tables_stay_the_same() {
-        assert_eq!((sum(false), sum(true)), (0xf3d7dc34b43f0d29, 0xd1b7dfed67f67dba));
+        assert_eq!((sum(false, false), sum(false, true)), (0xf3d7dc34b43f0d29, 0xd1b7dfed67f67dba));
+        assert_eq!((sum(true, false), sum(true, true)), (0xabd68ee863ee2937, 0x8b47181394df8ba7));
+    }
+
+    #[test]
+    fn graded_tables_are_others_with_grades() {
+        for (kind, other) in [(Graded, Shallow), (GradedMates, ShallowMates), (Heavy, Deep)] {
+            let (mut graded, other) = (table(kind, 1), table(other, 1));
+            let grades: BTreeSet<usize> = graded.grades.iter().map(|&grade| grade as usize).collect();
+            assert!(grades.into_iter().eq(kind.grades()), "{kind}");
+            graded.records.chunks_mut(RECORD).for_each(|record| record[7] = 0);
+            assert!(graded.records == other.records, "{kind}");
+        }
     }
 
     #[test]
@@ -374,12 +429,13 @@ mod tests {
     }
 
     #[test]
-    fn cells_and_tags_are_those_of_the_records() {
+    fn cells_tags_and_grades_are_those_of_the_records() {
         for kind in Kind::ALL {
             let table = table(kind, 1);
-            let (mut cells, mut tags) = (vec![9; MOST * MOST], vec![9; MOST]);
-            assert_eq!(unpack(MOST, &table.records, &mut cells, &mut tags), Outcome::Accepted(MOST));
-            assert!((cells, tags) == (table.cells, table.tags), "{kind}");
+            let (mut cells, mut tags, mut grades) = (vec![9; MOST * MOST], vec![9; MOST], vec![99; MOST]);
+            let outcome = unpack(MOST, &table.records, &mut cells, &mut tags, &mut grades);
+            assert_eq!(outcome, Outcome::Accepted(MOST));
+            assert!((cells, tags, grades) == (table.cells, table.tags, table.grades), "{kind}");
         }
     }
 }

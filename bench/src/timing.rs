@@ -135,7 +135,7 @@ const ROWS: [(Service, &[Kind]); 8] = {
         (Service::Check, &[Typical, Random, Clean, Uniform, Empty, Single, Mates]),
         (Service::S, &[Typical, Random, Clean, Full, Shallow]),
         (Service::F, &[Typical, Random, Clean, Mixed, Uniform, Single]),
-        (Service::C, &[Shallow, Deep, Single, ShallowMates]),
+        (Service::C, &[Shallow, Deep, Single, ShallowMates, Graded, Heavy]),
         (Service::ConflictCounts, &[Typical, Random, Clean, Uniform, Empty, Single, Mates]),
     ]
 };
