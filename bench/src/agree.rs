@@ -97,6 +97,7 @@ mod tests {
     use super::*;
     use crate::rules;
     use crate::tables::{table, MOST};
+    use haplotypes::RECORD;
     use std::collections::BTreeSet;
     use std::sync::OnceLock;
 
@@ -135,7 +136,7 @@ mod tests {
             assert_eq!(refusals(service), [4, 5, 6, 7, 8, 9, 13]);
         }
         assert_eq!(refusals(Service::C), [4, 5, 6, 7, 9, 12, 13]);
-        assert_eq!(refusals(Service::Pack), [4, 6, 9, 13, 17]);
+        assert_eq!(refusals(Service::Pack), [4, 5, 6, 9, 13, 17]);
         assert_eq!(refusals(Service::Find), []);
     }
 
@@ -147,14 +148,28 @@ mod tests {
         }
     }
 
+    /// A service refuses the requests of a form by one rule, wherever the fragment stands.
+    fn refused_everywhere(service: Service, form: Form, rule: u8) {
+        const LAST: usize = MOST - 1;
+        let of_form = |request: &Request| (request.service, request.form) == (service, form);
+        let asked = outcomes().iter().filter(|(request, _)| of_form(request));
+        let refused: BTreeSet<_> = asked.map(|(_, outcome)| refusal(*outcome).expect("it is refused")).collect();
+        assert!(refused.iter().all(|&(number, _)| number == rule), "{service}: {refused:?}");
+        let places: Vec<usize> = refused.into_iter().map(|(_, place)| place).collect();
+        assert!(matches!(places[..], [0, _, .., LAST]), "{service}: {places:?}");
+    }
+
     #[test]
     fn pack_refuses_a_fragment_without_calls_wherever_it_stands() {
-        const LAST: usize = MOST - 1;
-        let asked = outcomes().iter().filter(|(request, _)| request.form == Form::Uncalled);
-        let refused: BTreeSet<_> = asked.map(|(_, outcome)| refusal(*outcome).expect("it is refused")).collect();
-        assert!(refused.iter().all(|&(number, _)| number == 17), "{refused:?}");
-        let places: Vec<usize> = refused.into_iter().map(|(_, place)| place).collect();
-        assert!(matches!(places[..], [0, _, .., LAST]), "{places:?}");
+        refused_everywhere(Service::Pack, Form::Uncalled, 17);
+    }
+
+    #[test]
+    fn a_grade_over_15_is_refused_wherever_it_stands() {
+        // S and F refuse mate pairs at the first of them
+        for service in [Service::Unpack, Service::Pack, Service::Check, Service::C, Service::ConflictCounts] {
+            refused_everywhere(service, Form::Overgraded, 5);
+        }
     }
 
     /// The outcome of all for a sound table.
@@ -178,6 +193,17 @@ mod tests {
             let deep = table(kind, 1).first_deep(covers).expect("a column is too deep");
             assert_eq!(sound(Service::C, kind), Outcome::Refused(12, deep));
         }
+    }
+
+    #[test]
+    fn a_weight_that_all_have_multiplies_the_total_alone() {
+        let left = |kind| agree(Request { service: Service::C, kind, seed: 1, form: Form::Sound }, &ALL).unwrap();
+        let (mut heavy, mut light) = (left(Kind::Heavy), left(Kind::Deep));
+        let (Outcome::Accepted(total), Outcome::Accepted(count)) = (heavy.outcome, light.outcome) else { panic!() };
+        assert!(count > 0 && total == 60 * count, "{total} and {count}");
+        assert!(heavy.buffers.answer.lent() == light.buffers.answer.lent());
+        heavy.buffers.corrected.lent().chunks_mut(RECORD).for_each(|record| record[7] -= 15);
+        assert!(heavy.buffers.corrected.lent() == light.buffers.corrected.lent());
     }
 
     /// The outcome of all for a request with other sizes.
@@ -205,32 +231,37 @@ mod tests {
         }
     }
 
-    fn pack(n: usize, cells: usize, tags: usize, table: usize) -> Outcome {
+    fn pack(n: usize, cells: usize, tags: usize, grades: usize, table: usize) -> Outcome {
         resized(Service::Pack, |columns, buffers| {
             *columns = n;
             buffers.cells.resize(cells);
             buffers.tags.resize(tags);
+            buffers.grades.resize(grades);
             buffers.table.resize(table);
         })
     }
 
     #[test]
     fn every_rule_of_the_sizes_refuses_in_pack() {
-        assert_eq!(pack(129, 0, 129, 0), Outcome::Refused(3, 0));
-        assert_eq!(pack(128, 129 * 128 - 1, 129, 0), Outcome::Refused(1, 0));
-        assert_eq!(pack(0, 1, 0, 0), Outcome::Refused(1, 0));
-        assert_eq!(pack(128, 129 * 128, 129, 0), Outcome::Refused(2, 0));
-        assert_eq!(pack(128, 128 * 128, 128, 4095), Outcome::Refused(11, 0));
-        assert_eq!(pack(128, 128 * 128, 128, 4097), Outcome::Refused(11, 0));
+        assert_eq!(pack(129, 0, 129, 0, 0), Outcome::Refused(3, 0));
+        assert_eq!(pack(128, 129 * 128 - 1, 129, 129, 0), Outcome::Refused(1, 0));
+        assert_eq!(pack(0, 1, 0, 0, 0), Outcome::Refused(1, 0));
+        assert_eq!(pack(128, 129 * 128, 129, 128, 0), Outcome::Refused(1, 0));
+        assert_eq!(pack(128, 128 * 128, 128, 127, 4096), Outcome::Refused(1, 0));
+        assert_eq!(pack(128, 128 * 128, 128, 129, 4095), Outcome::Refused(1, 0));
+        assert_eq!(pack(128, 0, 0, 1, 0), Outcome::Refused(1, 0));
+        assert_eq!(pack(128, 129 * 128, 129, 129, 0), Outcome::Refused(2, 0));
+        assert_eq!(pack(128, 128 * 128, 128, 128, 4095), Outcome::Refused(11, 0));
+        assert_eq!(pack(128, 128 * 128, 128, 128, 4097), Outcome::Refused(11, 0));
     }
 
     #[test]
     fn no_fragment_has_a_call_without_columns() {
-        assert_eq!(pack(0, 0, 129, 129 * 32), Outcome::Refused(2, 0));
-        assert_eq!(pack(0, 0, 1, 31), Outcome::Refused(11, 0));
-        assert_eq!(pack(0, 0, 1, 32), Outcome::Refused(17, 0));
-        assert_eq!(pack(0, 0, 128, 4096), Outcome::Refused(17, 0));
-        assert_eq!(pack(0, 0, 0, 0), Outcome::Accepted(0));
-        assert_eq!(pack(128, 0, 0, 0), Outcome::Accepted(0));
+        assert_eq!(pack(0, 0, 129, 129, 129 * 32), Outcome::Refused(2, 0));
+        assert_eq!(pack(0, 0, 1, 1, 31), Outcome::Refused(11, 0));
+        assert_eq!(pack(0, 0, 1, 1, 32), Outcome::Refused(17, 0));
+        assert_eq!(pack(0, 0, 128, 128, 4096), Outcome::Refused(17, 0));
+        assert_eq!(pack(0, 0, 0, 0, 0), Outcome::Accepted(0));
+        assert_eq!(pack(128, 0, 0, 0, 0), Outcome::Accepted(0));
     }
 }

@@ -11,10 +11,14 @@ use std::ops::Range;
 const HOLE: u8 = 0;
 const NO_CALL: u8 = 3;
 
+/// Grades over 15: the least, the most, and between them one with bit 4 and two without it, the second of which is
+/// negative as a signed byte.
+const OVER: [u8; 5] = [16, 31, 32, 128, 255];
+
 /// The rules that a record can break, in the order in which they are tested.
 const OF_RECORDS: [u8; 7] = [4, 5, 6, 7, 8, 9, 13];
 /// Those of a row of cells that is to be packed: of one without calls, which reaches over no column, and of one with.
-const OF_ROWS: [[u8; 4]; 2] = [[6, 17, 9, 13], [6, 4, 9, 13]];
+const OF_ROWS: [[u8; 5]; 2] = [[5, 6, 17, 9, 13], [5, 6, 4, 9, 13]];
 
 #[derive(Clone, Copy, PartialEq, Eq, Debug)]
 pub enum Form {
@@ -30,20 +34,22 @@ pub enum Form {
     Repeated,
     /// A fragment and the one before it are in each other's place.
     Swapped,
-    /// A fragment breaks one of the rules and all later ones, and the last fragment the first rule, or for pack the
-    /// first or the second.
+    /// A fragment breaks one of the rules and all later ones, and the last fragment the first rule, or for pack one of
+    /// the first three.
     Broken,
     /// For pack: a fragment has no call, or none has.
     Uncalled,
+    /// A fragment has a grade over 15, or all have it.
+    Overgraded,
 }
 
 impl Form {
     pub fn of(service: Service) -> &'static [Form] {
         use Form::*;
         match service {
-            Service::Find => &[Sound, Absent, Changed, Miscalled, Repeated, Swapped, Broken],
-            Service::Pack => &[Sound, Changed, Repeated, Swapped, Broken, Uncalled],
-            _ => &[Sound, Changed, Miscalled, Repeated, Swapped, Broken],
+            Service::Find => &[Sound, Absent, Changed, Miscalled, Repeated, Swapped, Broken, Overgraded],
+            Service::Pack => &[Sound, Changed, Repeated, Swapped, Broken, Uncalled, Overgraded],
+            _ => &[Sound, Changed, Miscalled, Repeated, Swapped, Broken, Overgraded],
         }
     }
 }
@@ -76,6 +82,7 @@ impl Request {
             Service::Pack => {
                 buffers.cells.lent().copy_from_slice(&table.called_cells());
                 buffers.tags.lent().copy_from_slice(&table.tags);
+                buffers.grades.lent().copy_from_slice(&table.grades);
             }
             _ => buffers.table.lent().copy_from_slice(&table.records),
         }
@@ -101,7 +108,8 @@ impl Request {
     }
 
     fn spoil(&self, random: &mut Random, buffers: &mut Buffers) {
-        let (table, cells, tags) = (buffers.table.lent(), buffers.cells.lent(), buffers.tags.lent());
+        let (table, cells) = (buffers.table.lent(), buffers.cells.lent());
+        let (tags, grades) = (buffers.tags.lent(), buffers.grades.lent());
         // by little, so that every rule refuses some of the tables
         let change = 1 + random.below(3) as u8;
         match (self.form, self.service) {
@@ -111,22 +119,35 @@ impl Request {
             (Form::Miscalled, _) => table[RECORD * random.below(MOST) + 8 + random.below(2)] ^= change,
             (Form::Repeated, Service::Pack) => tags[MOST - 1] = tags[0],
             (Form::Repeated, _) => table.copy_within(0..4, (MOST - 1) * RECORD),
-            (Form::Swapped, Service::Pack) => swap_rows(cells, tags, 1 + random.below(MOST - 1)),
+            (Form::Swapped, Service::Pack) => swap_rows(cells, tags, grades, 1 + random.below(MOST - 1)),
             (Form::Swapped, _) => swap(table, RECORD, 1 + random.below(MOST - 1)),
             (Form::Broken, Service::Pack) => {
                 let rules = &OF_ROWS[self.seed as usize % 2];
-                break_row(cells, tags, broken_at(random), self.rules_from_one(rules));
+                break_row(cells, tags, grades, broken_at(random), self.rules_from_one(rules));
                 let last = &mut cells[MOST * (MOST - 1)..];
                 last.fill(HOLE);
-                last[0] = [HOLE, NO_CALL][random.below(2)];
+                match random.below(3) {
+                    0 => grades[MOST - 1] = OVER[0],
+                    1 => last[0] = NO_CALL,
+                    _ => {}
+                }
             }
             (Form::Broken, _) => {
                 break_record(table, broken_at(random), self.rules_from_one(&OF_RECORDS));
                 table[RECORD * (MOST - 1) + 6] = CELLS as u8 + 1;
             }
             (Form::Uncalled, _) => {
-                let Range { start, end } = self.uncalled(random);
+                let Range { start, end } = self.one_or_all(random);
                 cells[MOST * start..MOST * end].fill(HOLE);
+            }
+            (Form::Overgraded, service) => {
+                let over = OVER[random.below(OVER.len())];
+                for i in self.one_or_all(random) {
+                    match service {
+                        Service::Pack => grades[i] = over,
+                        _ => table[RECORD * i + 7] = over,
+                    }
+                }
             }
         }
     }
@@ -142,7 +163,7 @@ impl Request {
     }
 
     /// The first fragment, one between, the last, or all.
-    fn uncalled(&self, random: &mut Random) -> Range<usize> {
+    fn one_or_all(&self, random: &mut Random) -> Range<usize> {
         let between = 1 + random.below(MOST - 2);
         match self.turn(4) {
             0 => 0..1,
@@ -158,9 +179,10 @@ fn swap<T>(numbers: &mut [T], width: usize, i: usize) {
     numbers[width * (i - 1)..width * (i + 1)].rotate_left(width);
 }
 
-fn swap_rows(cells: &mut [u8], tags: &mut [u32], i: usize) {
+fn swap_rows(cells: &mut [u8], tags: &mut [u32], grades: &mut [u8], i: usize) {
     swap(cells, MOST, i);
     swap(tags, 1, i);
+    swap(grades, 1, i);
 }
 
 /// Neither of the first two fragments nor the last: with start 0 and the first one's tag it comes before the second,
@@ -190,16 +212,19 @@ fn break_record(table: &mut [u8], i: usize, rules: &[u8]) {
     }
     codes.iter().enumerate().for_each(|(k, code)| record[8 + k / 4] |= code << (2 * (k % 4)));
     record[6] = if broken(4) { CELLS + 1 } else { codes.len() } as u8;
-    record[7] = broken(5) as u8;
+    record[7] = if broken(5) { OVER[0] } else { 0 };
 }
 
-/// The same for a row of cells and its tag.
-fn break_row(cells: &mut [u8], tags: &mut [u32], i: usize, rules: &[u8]) {
+/// The same for a row of cells, its tag and its grade.
+fn break_row(cells: &mut [u8], tags: &mut [u32], grades: &mut [u8], i: usize, rules: &[u8]) {
     let broken = |rule| rules.contains(&rule);
     if !broken(9) {
-        return swap_rows(cells, tags, i);
+        return swap_rows(cells, tags, grades, i);
     }
     tags[i] = tags[0];
+    if broken(5) {
+        grades[i] = OVER[0];
+    }
     let row = &mut cells[MOST * i..MOST * (i + 1)];
     row.fill(HOLE);
     if !broken(17) {
@@ -225,6 +250,7 @@ impl fmt::Display for Request {
             Form::Swapped => out.write_str(", two fragments swapped"),
             Form::Broken => out.write_str(", several rules broken"),
             Form::Uncalled => out.write_str(", calls left out"),
+            Form::Overgraded => out.write_str(", a grade over 15"),
         }
     }
 }

@@ -16,6 +16,9 @@ pub struct Fragment {
     start: usize,
     end: usize,
     tag: u32,
+    grade: u8,
+    /// whether a cell after the span is not 0
+    stray: bool,
     /// the rules that it breaks whatever the others are, those of other services among them
     broken: Vec<u8>,
 }
@@ -38,22 +41,28 @@ fn of_record(record: &[u8]) -> Fragment {
     let (start, span) = (u16::from_le_bytes([record[4], record[5]]) as usize, record[6] as usize);
     let cells: Vec<u8> = (0..CELLS).map(|i| record[8 + i / 4] >> (2 * (i % 4)) & 3).collect();
     let (codes, after) = cells.split_at(span.min(CELLS));
+    let (grade, stray) = (record[7], after.iter().any(|&code| code != 0));
     let broken = numbers(&[
         (4, span > CELLS || start + span > MOST || span == 0 && start != 0),
-        (5, record[7] != 0 || after.iter().any(|&code| code != 0)),
+        (5, grade > 15 || stray),
         (6, codes.contains(&3)),
         (7, codes.first() == Some(&0) || codes.last() == Some(&0)),
         (8, is_gapped(codes)),
         (17, span == 0),
     ]);
-    Fragment { start, end: start + span, tag, broken }
+    Fragment { start, end: start + span, tag, grade, stray, broken }
 }
 
-fn of_row(cells: &[u8], tag: u32) -> Fragment {
+fn of_row(cells: &[u8], tag: u32, grade: u8) -> Fragment {
     let called: Vec<usize> = (0..cells.len()).filter(|&column| is_call(cells[column])).collect();
     let (start, end) = (called.first().copied().unwrap_or(0), called.last().map_or(0, |last| last + 1));
-    let broken = numbers(&[(6, cells.iter().any(|&code| code > 2)), (17, called.is_empty()), (4, end - start > CELLS)]);
-    Fragment { start, end, tag, broken }
+    let broken = numbers(&[
+        (5, grade > 15),
+        (6, cells.iter().any(|&code| code > 2)),
+        (17, called.is_empty()),
+        (4, end - start > CELLS),
+    ]);
+    Fragment { start, end, tag, grade, stray: false, broken }
 }
 
 /// The fragments that a request gives.
@@ -62,7 +71,8 @@ pub fn fragments(request: Request) -> Vec<Fragment> {
     match request.service {
         Service::Pack => {
             let rows = buffers.cells.lent().chunks(MOST);
-            rows.zip(buffers.tags.lent()).map(|(row, tag)| of_row(row, *tag)).collect()
+            let rows = rows.zip(buffers.tags.lent()).zip(buffers.grades.lent());
+            rows.map(|((row, tag), grade)| of_row(row, *tag, *grade)).collect()
         }
         _ => buffers.table.lent().chunks(RECORD).map(of_record).collect(),
     }
@@ -72,7 +82,7 @@ pub fn fragments(request: Request) -> Vec<Fragment> {
 fn rules(service: Service) -> &'static [u8] {
     match service {
         Service::Find => &[],
-        Service::Pack => &[6, 17, 4, 9, 13],
+        Service::Pack => &[5, 6, 17, 4, 9, 13],
         Service::S | Service::F => &[4, 5, 6, 7, 8, 9, 13],
         _ => &[4, 5, 6, 7, 9, 13],
     }
@@ -193,68 +203,100 @@ fn wrong_ways(rules: &'static [u8]) -> Vec<Wrong> {
     ]
 }
 
-/// Pack's list with 4 or 17 moved to where no exchange of neighbours puts it, as the other of them is its neighbour.
-const WRONG_MOVES: [(&str, [u8; 5]); 3] =
-    [("4 before 6", [4, 6, 17, 9, 13]), ("17 after 9", [6, 4, 9, 17, 13]), ("17 after 13", [6, 4, 9, 13, 17])];
+/// Pack's list with 4 or 17 moved to where no exchange of neighbours puts it, as the other of them is its neighbour, or
+/// with 4 and 5 as for records.
+const WRONG_MOVES: [(&str, [u8; 6]); 4] = [
+    ("4 before 6", [5, 4, 6, 17, 9, 13]),
+    ("17 after 9", [5, 6, 4, 9, 17, 13]),
+    ("17 after 13", [5, 6, 4, 9, 13, 17]),
+    ("4 before 5", [4, 5, 6, 17, 9, 13]),
+];
+
+/// Whether a fragment breaks a rule.
+type Test = fn(&Fragment) -> bool;
+
+/// Rule 5 by something else than that the grade is over 15.
+const WRONG_GRADES: [(&str, Test); 6] = [
+    ("a grade over 0", |fragment| fragment.grade > 0 || fragment.stray),
+    ("a grade over 14", |fragment| fragment.grade > 14 || fragment.stray),
+    ("a grade over 16", |fragment| fragment.grade > 16 || fragment.stray),
+    ("a grade of 16", |fragment| fragment.grade == 16 || fragment.stray),
+    ("bit 4 of the grade", |fragment| fragment.grade & 16 != 0 || fragment.stray),
+    ("a signed grade over 15", |fragment| fragment.grade as i8 > 15 || fragment.stray),
+];
+
+/// Rule 5 of records by the grade or the cells after the span alone, or by both together.
+const WRONG_STRAYS: [(&str, Test); 3] = [
+    ("the grade alone", |fragment| fragment.grade > 15),
+    ("the cells alone", |fragment| fragment.stray),
+    ("the grade and the cells", |fragment| fragment.grade > 15 && fragment.stray),
+];
 
 /// Rule 17 by something else than that there is no call.
-const WRONG_CALLS: [(&str, fn(&Fragment) -> bool); 4] = [
+const WRONG_CALLS: [(&str, Test); 4] = [
     ("a start of 0", |fragment| fragment.start == 0),
     ("a span of at most 1", |fragment| fragment.end - fragment.start <= 1),
     ("no call after column 0", |fragment| fragment.end <= 1),
     ("no call before the last column", |fragment| fragment.end == 0 || fragment.start == MOST - 1),
 ];
 
-/// Fragments with another rule 17.
-fn uncalled_by(fragments: &[Fragment], uncalled: fn(&Fragment) -> bool) -> Vec<Fragment> {
+/// Fragments of which another test decides whether they break a rule.
+fn broken_by(fragments: &[Fragment], rule: u8, test: Test) -> Vec<Fragment> {
     let other = |fragment: &Fragment| {
         let mut broken = fragment.broken.clone();
-        broken.retain(|&rule| rule != 17);
-        broken.extend(uncalled(fragment).then_some(17));
+        broken.retain(|&number| number != rule);
+        broken.extend(test(fragment).then_some(rule));
         Fragment { broken, ..*fragment }
     };
     fragments.iter().map(other).collect()
 }
 
-/// A fragment that 17 refuses before or after all others, or not at its place.
-fn wrong_ways_to_17(rules: &'static [u8]) -> [Wrong; 3] {
+/// A rule by each of some other tests.
+fn wrong_tests<'a>(rules: &'static [u8], rule: u8, tests: &'a [(&'a str, Test)]) -> impl Iterator<Item = Wrong> + 'a {
+    tests.iter().map(move |&(name, test)| {
+        wrong(format!("{rule} by {name}"), move |fragments| first(&broken_by(fragments, rule, test), rules, is_early))
+    })
+}
+
+/// A fragment that a rule refuses before or after all others, or not at its place.
+fn wrong_ways_to(rules: &'static [u8], rule: u8) -> [Wrong; 3] {
     let before = move |fragments: &[Fragment]| {
-        faults(fragments, rules, is_early).min_by_key(|&(number, place)| (number != 17, place))
+        faults(fragments, rules, is_early).min_by_key(|&(number, place)| (number != rule, place))
     };
     let after = move |fragments: &[Fragment]| {
-        faults(fragments, rules, is_early).min_by_key(|&(number, place)| (number == 17, place))
+        faults(fragments, rules, is_early).min_by_key(|&(number, place)| (number == rule, place))
     };
     let placeless = move |fragments: &[Fragment]| match first(fragments, rules, is_early) {
-        Some((17, _)) => Some((17, 0)),
+        Some((number, _)) if number == rule => Some((number, 0)),
         fault => fault,
     };
     [
-        wrong("17 before an earlier fragment's rules", before),
-        wrong("17 after a later fragment's rules", after),
-        wrong("17 at place 0", placeless),
+        wrong(format!("{rule} before an earlier fragment's rules"), before),
+        wrong(format!("{rule} after a later fragment's rules"), after),
+        wrong(format!("{rule} at place 0"), placeless),
     ]
 }
 
-/// Wrong about fragments without calls in pack, which refuses them.
+/// Wrong about fragments without calls, which pack alone refuses, and about where 5 stands in its list.
 fn wrong_in_pack(rules: &'static [u8]) -> Vec<Wrong> {
     let moves = WRONG_MOVES.map(|(name, list)| wrong(name, move |fragments| first(fragments, &list, is_early)));
-    let calls = WRONG_CALLS.map(|(name, uncalled)| {
-        wrong(format!("17 by {name}"), move |fragments| first(&uncalled_by(fragments, uncalled), rules, is_early))
-    });
-    moves.into_iter().chain(calls).chain(wrong_ways_to_17(rules)).collect()
+    let ways = [5, 17].map(|rule| wrong_ways_to(rules, rule)).into_iter().flatten();
+    moves.into_iter().chain(wrong_tests(rules, 17, &WRONG_CALLS)).chain(ways).collect()
 }
 
-/// Wrong about fragments without calls in a service that reads them. Pack refuses them, and so does not order them.
+/// Wrong about fragments without calls, and about stray bits, in a service that reads them. Pack refuses such fragments,
+/// and so does not order them, and is given no cells after a span.
 fn wrong_in_reading(rules: &'static [u8]) -> Vec<Wrong> {
     let last: Early = |fragments, i| {
         let place = |i: usize| (fragments[i].end == 0, fragments[i].start, fragments[i].tag);
         place(i) < place(i - 1)
     };
     let refusing = [rules, &[17]].concat();
-    vec![
+    let of_calls = [
         wrong("13 by start and tag, the fragments without calls last", move |fragments| first(fragments, rules, last)),
         wrong("17 too", move |fragments| first(fragments, &refusing, is_early)),
-    ]
+    ];
+    of_calls.into_iter().chain(wrong_tests(rules, 5, &WRONG_STRAYS)).collect()
 }
 
 /// Rules of a service that are wrong in one way each.
@@ -265,8 +307,9 @@ pub fn wrong_rules(service: Service) -> Vec<Wrong> {
     }
     let orders = WRONG_ORDERS
         .map(|(name, early)| wrong(format!("13 by {name}"), move |fragments| first(fragments, rules, early)));
-    let of_calls = if service == Service::Pack { wrong_in_pack(rules) } else { wrong_in_reading(rules) };
-    let of_fragments = wrong_lists(rules).into_iter().chain(orders).chain(wrong_ways(rules)).chain(of_calls);
+    let own = if service == Service::Pack { wrong_in_pack(rules) } else { wrong_in_reading(rules) };
+    let grades = wrong_tests(rules, 5, &WRONG_GRADES);
+    let of_fragments = wrong_lists(rules).into_iter().chain(orders).chain(wrong_ways(rules)).chain(grades).chain(own);
     let mut all: Vec<Wrong> = of_fragments
         .map(|Wrong { name, fault }| {
             wrong(name, move |fragments| fault(fragments).or_else(|| too_deep(service, fragments)))
