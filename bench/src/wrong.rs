@@ -1,5 +1,7 @@
 //! Wrong implementations, which what `bench/run` runs must notice. Each prints a line then, for `bench/test` to count.
 
+mod grades;
+
 use crate::agree::{agree, agree_on_all, requests, ALL, LIBRARY};
 use crate::buffers::{Buffers, Guarded, GUARD};
 use crate::request::{Form, Request};
@@ -17,7 +19,7 @@ fn request(service: Service, kind: Kind, form: Form) -> Request {
 
 /// Every service on gapless fragments and on mate pairs.
 fn sound() -> impl Iterator<Item = Request> {
-    let kinds = [Kind::Shallow, Kind::ShallowMates].into_iter();
+    let kinds = [Kind::Graded, Kind::GradedMates].into_iter();
     kinds.flat_map(|kind| Service::ALL.map(|service| request(service, kind, Form::Sound)))
 }
 
@@ -26,10 +28,10 @@ fn accepted() -> impl Iterator<Item = Request> {
     sound().filter(Request::must_be_accepted)
 }
 
-/// Every service that refuses, on a tag twice, on fragments out of order, and on mate pairs if it does not take them;
-/// pack also on a fragment without calls, in order.
+/// Every service that refuses, on a tag twice, on fragments out of order, on a grade over 15, and on mate pairs if it
+/// does not take them; pack also on a fragment without calls, in order.
 fn refused() -> impl Iterator<Item = Request> {
-    let forms = [Form::Repeated, Form::Swapped].into_iter();
+    let forms = [Form::Repeated, Form::Swapped, Form::Overgraded].into_iter();
     let requests = forms.flat_map(|form| Service::ALL.map(|service| request(service, Kind::Shallow, form)));
     let uncalled = request(Service::Pack, Kind::Front, Form::Uncalled);
     requests.chain(sound()).chain([uncalled]).filter(|request| !request.must_be_accepted())
@@ -63,10 +65,11 @@ fn flip<T: BitXorAssign + From<u8>>(buffer: &mut Guarded<T>, place: usize) {
 
 /// One bit in each buffer: of its first number, of its last, of the one before it and of the one after it.
 fn each_bit_is_noticed(request: Request) {
-    let flips: [fn(&mut Buffers, usize); 7] = [
+    let flips: [fn(&mut Buffers, usize); 8] = [
         |buffers, place| flip(&mut buffers.table, place),
         |buffers, place| flip(&mut buffers.cells, place),
         |buffers, place| flip(&mut buffers.tags, place),
+        |buffers, place| flip(&mut buffers.grades, place),
         |buffers, place| flip(&mut buffers.answer, place),
         |buffers, place| flip(&mut buffers.corrected, place),
         |buffers, place| flip(&mut buffers.work, place),
