@@ -9,6 +9,8 @@ extern "C" {
         cells_length: usize,
         tags: *mut u32,
         tags_length: usize,
+        grades: *mut u8,
+        grades_length: usize,
     ) -> u64;
     pub fn haplotypes_pack(
         n: usize,
@@ -16,6 +18,8 @@ extern "C" {
         cells_length: usize,
         tags: *const u32,
         tags_length: usize,
+        grades: *const u8,
+        grades_length: usize,
         table: *mut u8,
         table_length: usize,
     ) -> u64;

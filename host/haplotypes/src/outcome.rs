@@ -6,10 +6,10 @@ use std::fmt;
 ///
 /// | number | refused | place |
 /// |---|---|---|
-/// | 1 | the table's bytes are not a multiple of 32; pack: the cells are not m × n | 0 |
+/// | 1 | the table's bytes are not a multiple of 32; pack: the cells are not m × n, or the grades not m | 0 |
 /// | 2, 3 | over 128 fragments; over 128 columns | 0 |
 /// | 4 | out of frame: span over 96, start + span over n, or a start without calls | the fragment |
-/// | 5 | stray bits: byte 7, or a cell after the span, is not 0 | the fragment |
+/// | 5 | stray bits: a grade over 15, or a cell after the span that is not 0 | the fragment |
 /// | 6 | an unknown call: a code over 2 | the fragment |
 /// | 7 | an open end: the span's first or last cell is a hole | the fragment |
 /// | 8 | S and F alone: gapped, a hole between two calls | the fragment |

@@ -65,6 +65,7 @@ pub const WITH_WORK: [Service; 3] = [S, F, C];
 pub struct Sizes {
     pub cells: usize,
     pub tags: usize,
+    pub grades: usize,
     pub work: usize,
     pub answer: usize,
     pub table: usize,
@@ -74,7 +75,7 @@ pub struct Sizes {
 impl Sizes {
     /// The lengths that the papers ask for.
     pub fn exact(n: usize, m: usize) -> Sizes {
-        Sizes { cells: m * n, tags: m, work: 32_768, answer: 3 * n + 2 * m, table: 32 * m, counts: m * m }
+        Sizes { cells: m * n, tags: m, grades: m, work: 32_768, answer: 3 * n + 2 * m, table: 32 * m, counts: m * m }
     }
 
     pub fn of(given: &Fixture) -> Sizes {
@@ -147,8 +148,8 @@ impl Drop for Trials {
 fn call(service: Service, n: usize, given: &Buffers, lent: &mut Buffers) -> Outcome {
     let table = given.table.part();
     match service {
-        Unpack => unpack(n, table, lent.cells.lend(), lent.tags.lend()),
-        Pack => pack(n, given.cells.part(), given.tags.part(), lent.table.lend()),
+        Unpack => unpack(n, table, lent.cells.lend(), lent.tags.lend(), lent.grades.lend()),
+        Pack => pack(n, given.cells.part(), given.tags.part(), given.grades.part(), lent.table.lend()),
         Check => check(n, table, lent.answer.lend()),
         ConflictCounts => conflict_counts(n, table, lent.counts.lend()),
         S => least_snp_removal(n, table, lent.work.lend(), lent.answer.lend()),
@@ -161,6 +162,7 @@ fn call(service: Service, n: usize, given: &Buffers, lent: &mut Buffers) -> Outc
 struct Buffers {
     cells: Guarded<u8>,
     tags: Guarded<u32>,
+    grades: Guarded<u8>,
     work: Guarded<u16>,
     answer: Guarded<u8>,
     table: Guarded<u8>,
@@ -172,6 +174,7 @@ impl Buffers {
         Buffers {
             cells: Guarded::dirty(sizes.cells, dirt),
             tags: Guarded::dirty(sizes.tags, dirt),
+            grades: Guarded::dirty(sizes.grades, dirt),
             work: Guarded::dirty(sizes.work, dirt),
             answer: Guarded::dirty(sizes.answer, dirt),
             table: Guarded::dirty(sizes.table, dirt),
@@ -183,6 +186,7 @@ impl Buffers {
         Buffers {
             cells: Guarded::holding(&given.cells, dirt),
             tags: Guarded::holding(&given.tags, dirt),
+            grades: Guarded::holding(&given.grades, dirt),
             table: Guarded::holding(&given.table, dirt),
             ..Buffers::dirty(Sizes::exact(0, 0), dirt)
         }
@@ -193,6 +197,7 @@ impl Buffers {
         let zero = (borrows_work && expected.answer.is_some()).then(|| vec![0; self.work.part().len()]);
         self.cells.compare(&format!("{row}: cells"), expected.cells.as_deref());
         self.tags.compare(&format!("{row}: tags"), expected.tags.as_deref());
+        self.grades.compare(&format!("{row}: grades"), expected.grades.as_deref());
         self.work.compare(&format!("{row}: work"), zero.as_deref());
         self.answer.compare(&format!("{row}: answer"), expected.answer.as_deref());
         self.table.compare(&format!("{row}: table"), expected.table.as_deref());

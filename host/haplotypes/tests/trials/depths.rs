@@ -111,7 +111,7 @@ fn records_come_before_depths() {
     let level = fragments(&[(9, "AAA"), (1, "A--")]);
     let rows = [
         ("the first record is out of frame", Fixture::of(&deep).in_columns(2), Expected::refused(4, 0)),
-        ("the last record has stray bits", Fixture::of(&deep).edited(9, &[(7, 1)]), Expected::refused(5, 9)),
+        ("the last record has stray bits", Fixture::of(&deep).edited(9, &[(7, 16)]), Expected::refused(5, 9)),
         ("the last record has the first one's tag", Fixture::of(&last).edited(9, &[(0, 10)]), Expected::refused(9, 9)),
         ("the last record is out of order", Fixture::of(&level).edited(9, &[(0, 9)]), Expected::refused(13, 9)),
         ("the last record has a hole", Fixture::of(&last), Expected::refused(12, 0)),

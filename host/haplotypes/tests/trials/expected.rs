@@ -11,6 +11,7 @@ pub struct Expected {
     pub outcome: Outcome,
     pub cells: Option<Vec<u8>>,
     pub tags: Option<Vec<u32>>,
+    pub grades: Option<Vec<u8>>,
     pub answer: Option<Vec<u8>>,
     pub table: Option<Vec<u8>>,
     pub counts: Option<Vec<u8>>,
@@ -18,7 +19,7 @@ pub struct Expected {
 
 impl Expected {
     pub fn untouched(outcome: Outcome) -> Expected {
-        Expected { outcome, cells: None, tags: None, answer: None, table: None, counts: None }
+        Expected { outcome, cells: None, tags: None, grades: None, answer: None, table: None, counts: None }
     }
 
     pub fn refused(number: u8, place: usize) -> Expected {
@@ -26,8 +27,9 @@ impl Expected {
     }
 
     pub fn unpacked(given: &Fixture) -> Expected {
-        let (cells, tags) = (Some(given.cells.clone()), Some(given.tags.clone()));
-        Expected { cells, tags, ..Expected::untouched(Accepted(given.m())) }
+        let (cells, tags, grades) = (given.cells.clone(), given.tags.clone(), given.grades.clone());
+        let outcome = Accepted(given.m());
+        Expected { cells: Some(cells), tags: Some(tags), grades: Some(grades), ..Expected::untouched(outcome) }
     }
 
     /// The table, where every fragment has a call; the first without is refused.

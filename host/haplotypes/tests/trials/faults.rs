@@ -57,7 +57,7 @@ fn out_of_frame() {
 fn stray_bits() {
     let (a95, a93) = ("A".repeat(95), "A".repeat(93));
     run_faults(&[
-        ("byte 7 is 1", 3, "A", &[(7, 1)], 5),
+        ("byte 7 is 16", 3, "A", &[(7, 16)], 5),
         ("byte 7 is 128", 3, "A", &[(7, 128)], 5),
         ("an A after the span", 3, "A", &[(8, 0b01_01)], 5),
         ("a B after the span", 3, "A", &[(8, 0b10_01)], 5),
@@ -70,7 +70,7 @@ fn stray_bits() {
         ("span 93 and the last cell", 128, &a93, &[(31, 0b01_00_00_01)], 5),
         ("no calls and a cell left", 3, "---", &[(8, 1)], 5),
         ("no calls and the last cell left", 3, "---", &[(31, 64)], 5),
-        ("no calls and byte 7", 3, "---", &[(7, 1)], 5),
+        ("no calls and byte 7", 3, "---", &[(7, 16)], 5),
     ]);
 }
 
@@ -191,7 +191,7 @@ fn faults_of_the_last_record() {
         trials.run("the tag of record 0 at 127", service, &twice, &Expected::refused(9, 127));
     }
     for service in OF_TABLES {
-        let stray = whole.clone().edited(127, &[(7, 1)]);
+        let stray = whole.clone().edited(127, &[(7, 16)]);
         trials.run("byte 7 of record 127", service, &stray, &Expected::refused(5, 127));
     }
     let mut gapped: Vec<String> = (0..127).map(|i| lone('A', i.min(125), 128)).collect();

@@ -6,18 +6,19 @@ const CELLS: usize = 96;
 /// The first of the tags that fragments get: those of the table that paper 01 prints.
 const FIRST_TAG: u32 = 10;
 
-/// The same fragments in both forms: as records, and as cells and tags.
+/// The same fragments in both forms: as records, and as cells, tags and grades.
 #[derive(Clone)]
 pub struct Fixture {
     pub n: usize,
     pub table: Vec<u8>,
     pub cells: Vec<u8>,
     pub tags: Vec<u32>,
+    pub grades: Vec<u8>,
 }
 
 impl Fixture {
     /// Fragments in letters from column 0 on: `A`, `B`, `-` for a hole, `?` for the code 3. All have one length, which
-    /// is n.
+    /// is n, and the grade 0.
     pub fn of(fragments: &[impl AsRef<str>]) -> Fixture {
         let tags: Vec<u32> = (FIRST_TAG..).take(fragments.len()).collect();
         Fixture::tagged(fragments, &tags)
@@ -29,7 +30,7 @@ impl Fixture {
         let n = rows.first().map_or(0, Vec::len);
         assert!(rows.iter().all(|row| row.len() == n), "fragments of one length");
         let table = rows.iter().zip(tags).flat_map(|(row, &tag)| record(tag, row)).collect();
-        Fixture { n, table, cells: rows.concat(), tags: tags.to_vec() }
+        Fixture { n, table, cells: rows.concat(), tags: tags.to_vec(), grades: vec![0; tags.len()] }
     }
 
     pub fn m(&self) -> usize {
@@ -44,6 +45,16 @@ impl Fixture {
     /// Said to have so many columns, with the same bytes.
     pub fn in_columns(mut self, n: usize) -> Fixture {
         self.n = n;
+        self
+    }
+
+    /// With these grades, in byte 7 of each record too.
+    pub fn graded(mut self, grades: &[u8]) -> Fixture {
+        assert_eq!(grades.len(), self.m(), "a grade for each fragment");
+        self.grades = grades.to_vec();
+        for (place, &grade) in grades.iter().enumerate() {
+            self.table[RECORD * place + 7] = grade;
+        }
         self
     }
 
@@ -144,7 +155,16 @@ fn letters_are_the_bytes_that_the_paper_prints() {
     let fixture = Fixture::of(&["AA-", "BAA", "-BB"]);
     assert_eq!(fixture.table, filled.concat());
     assert_eq!(fixture.cells, [1, 1, 0, 2, 1, 1, 0, 2, 2]);
-    assert_eq!((fixture.n, fixture.tags), (3, vec![10, 11, 12]));
+    assert_eq!((fixture.n, fixture.tags, fixture.grades), (3, vec![10, 11, 12], vec![0; 3]));
+}
+
+#[test]
+fn grades_stand_in_byte_7() {
+    let fixture = Fixture::of(&["A", "-", "B"]).graded(&[7, 255, 15]);
+    assert_eq!(fixture.table[0..9], [10, 0, 0, 0, 0, 0, 1, 7, 0b01]);
+    assert_eq!(fixture.table[32..64], [&[11, 0, 0, 0, 0, 0, 0, 255][..], &[0; 24]].concat());
+    assert_eq!(fixture.table[64..73], [12, 0, 0, 0, 0, 0, 1, 15, 0b10]);
+    assert_eq!(fixture.grades, [7, 255, 15]);
 }
 
 #[test]

@@ -30,8 +30,9 @@ fn sizes_come_before_records() {
         given.table.extend(ragged.then_some(0));
         given.cells.extend(ragged.then_some(0));
         let exact = Sizes::of(&given);
-        let (cells, tags, counts) = (exact.cells + more, exact.tags + more, exact.counts + more);
-        let sizes = Sizes { cells, tags, work, answer: exact.answer + more, table: exact.table + more, counts };
+        let (cells, tags, grades) = (exact.cells + more, exact.tags + more, exact.grades + more);
+        let (answer, table, counts) = (exact.answer + more, exact.table + more, exact.counts + more);
+        let sizes = Sizes { cells, tags, grades, work, answer, table, counts };
         for service in SERVICES {
             let number = if WITH_WORK.contains(&service) { number } else { number_without_work };
             trials.run_sized(name, service, &given, sizes, &Expected::refused(number, 0));
@@ -63,7 +64,7 @@ fn run_sizes(services: &[Service], fragments: [&str; 2], many: &Fixture, by_them
     ragged.table.push(0);
     ragged.cells.push(0);
     let exact = Sizes::of(&given);
-    let wrong = Sizes { cells: 0, tags: 0, answer: 0, table: 0, counts: 0, ..exact };
+    let wrong = Sizes { cells: 0, tags: 0, grades: 0, answer: 0, table: 0, counts: 0, ..exact };
     for &service in services {
         trials.run("129 columns", service, &wide, &Expected::refused(3, 0));
         trials.run_sized("ragged", service, &ragged, exact, &Expected::refused(1, 0));
@@ -94,7 +95,7 @@ fn sizes_come_before_fragments_without_calls() {
 #[test]
 fn sizes_by_pairs() {
     let mut trials = Trials::default();
-    let empty = Sizes { cells: 0, tags: 0, work: 0, answer: 0, table: 0, counts: 0 };
+    let empty = Sizes { cells: 0, tags: 0, grades: 0, work: 0, answer: 0, table: 0, counts: 0 };
     let given = Fixture::of(&["AA-", "BAA", "-BB"]);
     let mut ragged = given.clone().in_columns(129);
     ragged.table.truncate(31);
@@ -130,8 +131,8 @@ fn outputs_come_before_records() {
 /// Each row has the faults of the next one too, and the last a hole. Byte 8 has four of the five cells, and byte 9 the
 /// last.
 const OF_A_RECORD: [Fault; 4] = [
-    ("4 to 8", 5, "AAAAA", &[(4, 1), (7, 1), (8, 0b01_00_01_00), (9, 0b11)], 4),
-    ("5 to 8", 5, "AAAAA", &[(7, 1), (8, 0b01_00_01_00), (9, 0b11)], 5),
+    ("4 to 8", 5, "AAAAA", &[(4, 1), (7, 16), (8, 0b01_00_01_00), (9, 0b11)], 4),
+    ("5 to 8", 5, "AAAAA", &[(7, 16), (8, 0b01_00_01_00), (9, 0b11)], 5),
     ("6 to 8", 5, "AAAAA", &[(8, 0b01_00_01_00), (9, 0b11)], 6),
     ("7 and 8", 5, "AAAAA", &[(8, 0b01_00_01_00)], 7),
 ];
@@ -235,21 +236,21 @@ fn refusal(service: Service, [of_gapless, of_mates]: Refusals) -> Expected {
 fn records_from_0() {
     let mut trials = Trials::default();
     let gapped = Fixture::of(&["A-A", "AAA", "AAA"]);
-    let open = Fixture::of(&["AAA", "AAA", "AAA"]).edited(1, &[(8, 0b00_01_01)]).edited(2, &[(7, 1)]);
+    let open = Fixture::of(&["AAA", "AAA", "AAA"]).edited(1, &[(8, 0b00_01_01)]).edited(2, &[(7, 16)]);
     let twice = Fixture::tagged(&["AAA", "AAA", "AAA"], &[10, 10, 12]).edited(2, &[(4, 1)]);
     let unordered = Fixture::tagged(&["AAA", "AAA", "AAA"], &[11, 10, 12]);
     let last = Fixture::tagged(&["AAA", "AAA", "AAA"], &[10, 12, 11]);
     let rows: [(&str, Fixture, Refusals); 11] = [
         ("8 at 0, 4 at 1", gapped.clone().edited(1, &[(4, 1)]), [(8, 0), (4, 1)]),
-        ("8 at 0, 5 at 1, 4 at 2", gapped.clone().edited(1, &[(7, 1)]).edited(2, &[(4, 1)]), [(8, 0), (5, 1)]),
+        ("8 at 0, 5 at 1, 4 at 2", gapped.clone().edited(1, &[(7, 16)]).edited(2, &[(4, 1)]), [(8, 0), (5, 1)]),
         ("8 at 0, 7 at 2", gapped.edited(2, &[(8, 0b01_01_00)]), [(8, 0), (7, 2)]),
         ("7 at 1, 5 at 2", open, [(7, 1); 2]),
         ("9 at 1, 4 at 2", twice, [(9, 1); 2]),
         ("13 at 1, 4 at 2", unordered.clone().edited(2, &[(4, 1)]), [(13, 1); 2]),
-        ("13 at 1, 5 at 2", unordered.clone().edited(2, &[(7, 1)]), [(13, 1); 2]),
+        ("13 at 1, 5 at 2", unordered.clone().edited(2, &[(7, 16)]), [(13, 1); 2]),
         ("13 at 1, 7 at 2", unordered.edited(2, &[(8, 0b01_01_00)]), [(13, 1); 2]),
         ("4 at 1, 13 at 2", last.clone().edited(1, &[(4, 1)]), [(4, 1); 2]),
-        ("5 at 0, 13 at 2", last.clone().edited(0, &[(7, 1)]), [(5, 0); 2]),
+        ("5 at 0, 13 at 2", last.clone().edited(0, &[(7, 16)]), [(5, 0); 2]),
         ("7 at 1, 13 at 2", last.edited(1, &[(8, 0b00_01_01)]), [(7, 1); 2]),
     ];
     for (name, given, refusals) in &rows {
