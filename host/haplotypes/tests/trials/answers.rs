@@ -8,7 +8,7 @@ use crate::fixtures::Fixture;
 /// C.
 type ErrorFree = (&'static str, &'static [&'static str], &'static str, &'static str);
 
-const ERROR_FREE: [ErrorFree; 18] = [
+pub const ERROR_FREE: [ErrorFree; 18] = [
     ("paper: no records, no columns", &[], ".", ". . . . ."),
     ("paper: A and B on one column", &["A", "B"], "01 10", "1 A B 12 0,0"),
     ("paper, with T-04: AA and AA", &["AA", "AA"], "00 00", "11 AA -- 11 0,1"),
@@ -64,17 +64,25 @@ fn error_free_tables() {
 }
 
 /// A table that is not: the numbers of conflict_counts, the lines of S, F and C, and the fragments of C's table.
-struct Errors {
-    name: &'static str,
-    fragments: &'static [&'static str],
+pub struct Errors {
+    pub name: &'static str,
+    pub fragments: &'static [&'static str],
     conflict_counts: &'static str,
     s: &'static str,
     f: &'static str,
-    c: &'static str,
-    corrected: &'static [&'static str],
+    pub c: &'static str,
+    pub corrected: &'static [&'static str],
 }
 
-const ERRORS: [Errors; 16] = [
+impl Errors {
+    /// What is expected of the same fragments with any grades, and this of C.
+    pub fn each(&self, given: &Fixture, c: Expected) -> Each {
+        let (s, f) = (Expected::listed(self.s), Expected::listed(self.f));
+        Each::of_errors(given, Expected::counted(self.conflict_counts), [s, f, c])
+    }
+}
+
+pub const ERRORS: [Errors; 16] = [
     Errors {
         name: "paper: printed",
         fragments: &["AA-", "BAA", "-BB"],
@@ -238,9 +246,7 @@ fn tables_with_errors() {
     let mut trials = Trials::default();
     for row in ERRORS {
         let given = Fixture::of(row.fragments);
-        let (s, f) = (Expected::listed(row.s), Expected::listed(row.f));
         let c = Expected::corrected(row.c, row.corrected);
-        let counted = Expected::counted(row.conflict_counts);
-        trials.run_each(row.name, &given, &Each::of_errors(&given, counted, [s, f, c]));
+        trials.run_each(row.name, &given, &row.each(&given, c));
     }
 }

@@ -11,6 +11,7 @@ mod faults;
 mod find;
 mod fixtures;
 mod full;
+mod grades;
 mod mates;
 mod no_calls;
 mod order;

@@ -10,7 +10,7 @@ use crate::fixtures::{mates, Fixture};
 /// answer of check and C.
 type ErrorFree = (&'static str, &'static [&'static str], usize, &'static str, &'static str);
 
-const ERROR_FREE: [ErrorFree; 14] = [
+pub const ERROR_FREE: [ErrorFree; 14] = [
     ("one fragment", &["A-B"], 0, "0", "111 A-B --- 1 0"),
     ("equal mates", &["A-B", "A-B"], 0, "00 00", "111 A-B --- 11 0,1"),
     ("opposite mates", &["A-B", "B-A"], 0, "02 20", "111 A-B B-A 12 0,0"),
@@ -58,16 +58,23 @@ fn error_free_tables() {
 
 /// A table that is not: the first fragment with a hole, the numbers of conflict_counts, C's line, and the fragments of
 /// its table.
-struct Errors {
-    name: &'static str,
-    fragments: &'static [&'static str],
+pub struct Errors {
+    pub name: &'static str,
+    pub fragments: &'static [&'static str],
     gapped: usize,
     conflict_counts: &'static str,
-    c: &'static str,
-    corrected: &'static [&'static str],
+    pub c: &'static str,
+    pub corrected: &'static [&'static str],
 }
 
-const ERRORS: [Errors; 8] = [
+impl Errors {
+    /// What is expected of the same fragments with any grades, and this of C.
+    pub fn each(&self, given: &Fixture, c: Expected) -> Each {
+        Each::of_gapped_errors(given, self.gapped, Expected::counted(self.conflict_counts), c)
+    }
+}
+
+pub const ERRORS: [Errors; 8] = [
     Errors {
         name: "papers: the gapped triangle",
         fragments: &["AB-", "B-A", "-AB"],
@@ -146,8 +153,7 @@ fn tables_with_errors() {
     for row in ERRORS {
         let given = Fixture::of(row.fragments);
         let c = Expected::corrected(row.c, row.corrected);
-        let expected = Each::of_gapped_errors(&given, row.gapped, Expected::counted(row.conflict_counts), c);
-        trials.run_each(row.name, &given, &expected);
+        trials.run_each(row.name, &given, &row.each(&given, c));
     }
 }
 

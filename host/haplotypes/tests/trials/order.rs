@@ -1,5 +1,5 @@
 //! Of several faults, the one that is refused: 3, 1, 2, 10, 11; then records from 0, each by 4 to 7, 9 and 13, for S and F
-//! by 4 to 9 and 13; then 12, which `depths` tries. Pack: 3, 1, 2, 11; then fragments from 0, each by 6, 17, 4, 9, 13.
+//! by 4 to 9 and 13; then 12, which `depths` tries. Pack: 3, 1, 2, 11; then fragments from 0, each by 5, 6, 17, 4, 9, 13.
 
 use crate::calls::{Service, Sizes, Trials, OF_TABLES, SERVICES, WITH_WORK};
 use crate::expected::{Each, Expected};
@@ -55,14 +55,16 @@ fn sizes_come_before_holes_and_depths() {
     }
 }
 
-/// Each fault of the sizes beside records, or 129 of them, that are refused by themselves.
-fn run_sizes(services: &[Service], fragments: [&str; 2], many: &Fixture, by_themselves: &Expected) {
+/// Each fault of the sizes beside records of a grade, or 129 of them, that are refused by themselves.
+fn run_sizes(services: &[Service], fragments: [&str; 2], grade: u8, many: &Fixture, by_themselves: &Expected) {
     let mut trials = Trials::default();
-    let given = Fixture::of(&fragments);
-    let wide = Fixture::of(&fragments.map(|letters| padded(letters, 129)));
+    let given = Fixture::of(&fragments).graded(&[grade; 2]);
+    let wide = Fixture::of(&fragments.map(|letters| padded(letters, 129))).graded(&[grade; 2]);
     let mut ragged = given.clone();
     ragged.table.push(0);
     ragged.cells.push(0);
+    let mut ungraded = given.clone();
+    ungraded.grades.pop();
     let exact = Sizes::of(&given);
     let wrong = Sizes { cells: 0, tags: 0, grades: 0, answer: 0, table: 0, counts: 0, ..exact };
     for &service in services {
@@ -75,19 +77,30 @@ fn run_sizes(services: &[Service], fragments: [&str; 2], many: &Fixture, by_them
             let short = Sizes { work: 32_767, ..wrong };
             trials.run_sized("short work", service, &given, short, &Expected::refused(10, 0));
         }
+        if service == Service::Pack {
+            trials.run("a grade too few", service, &ungraded, &Expected::refused(1, 0));
+        }
     }
 }
 
 #[test]
 fn sizes_come_before_records_out_of_order() {
     let many = Fixture::tagged(&["A"; 129], &(0..129).rev().collect::<Vec<u32>>());
-    run_sizes(&SERVICES, ["-A", "A-"], &many, &Expected::refused(13, 1));
+    run_sizes(&SERVICES, ["-A", "A-"], 0, &many, &Expected::refused(13, 1));
+}
+
+#[test]
+fn sizes_come_before_grades() {
+    for grade in [16, 255] {
+        let many = Fixture::of(&["A"; 129]).graded(&[grade; 129]);
+        run_sizes(&SERVICES, ["A-", "A-"], grade, &many, &Expected::refused(5, 0));
+    }
 }
 
 #[test]
 fn sizes_come_before_fragments_without_calls() {
     for letters in ["", "-", "--"] {
-        run_sizes(&[Service::Pack], [letters; 2], &Fixture::of(&[letters; 129]), &Expected::refused(17, 0));
+        run_sizes(&[Service::Pack], [letters; 2], 0, &Fixture::of(&[letters; 129]), &Expected::refused(17, 0));
     }
 }
 
@@ -124,8 +137,10 @@ fn outputs_come_before_records() {
     }
     let sizes = Sizes { table: 95, ..exact };
     trials.run_sized("and a wrong table", Service::C, &given, sizes, &Expected::refused(11, 0));
-    let sizes = Sizes { tags: 2, ..exact };
-    trials.run_sized("and wrong tags", Service::Unpack, &given, sizes, &Expected::refused(11, 0));
+    for (name, sizes) in [("tags", Sizes { tags: 2, ..exact }), ("grades", Sizes { grades: 2, ..exact })] {
+        let name = format!("and wrong {name}");
+        trials.run_sized(&name, Service::Unpack, &given, sizes, &Expected::refused(11, 0));
+    }
 }
 
 /// Each row has the faults of the next one too, and the last a hole. Byte 8 has four of the five cells, and byte 9 the
@@ -147,6 +162,17 @@ fn rules_of_a_record() {
         ("6 first and 7 last", 3, "AA", &[(8, 0b00_11)], 6),
         ("7 first and 6 last", 3, "AA", &[(8, 0b11_00)], 6),
         ("6 after a gap", 3, "A-?", &[], 6),
+        ("4 by a span of 97, and 5 by a grade", 128, "A", &[(6, 97), (7, 16)], 4),
+        ("4 past the columns, and 5 by a grade", 3, "-AA", &[(4, 2), (7, 16)], 4),
+        ("4 by a start without calls, and 5 by a grade", 3, "---", &[(4, 1), (7, 16)], 4),
+        ("5 by a grade and by a cell after the span", 3, "A", &[(7, 16), (8, 0b01_01)], 5),
+        ("5 by a grade, and 6", 3, "A?A", &[(7, 16)], 5),
+        ("5 by a grade, and 7", 3, "AA", &[(7, 16), (8, 0b01_00)], 5),
+        ("5 by a grade, and 8", 3, "A-A", &[(7, 16)], 5),
+        ("grade 15, and 4", 3, "-AA", &[(4, 2), (7, 15)], 4),
+        ("grade 15, and 5 by a cell after the span", 3, "A", &[(7, 15), (8, 0b01_01)], 5),
+        ("grade 15, and 6", 3, "A?A", &[(7, 15)], 6),
+        ("grade 15, and 7", 3, "AA", &[(7, 15), (8, 0b01_00)], 7),
     ]);
 }
 
@@ -182,6 +208,24 @@ fn rules_of_a_record_before_9_and_13() {
     trials.run_each("none", &given, &Each::of_conflict_free(&given, "11111 AAAAA ----- 111 0,1,2"));
 }
 
+/// A refused table, also with the grade 15 throughout, and with a grade over 15 at each place. By that a record, or
+/// fragment, is refused unless an earlier one is: rule 5 comes before all others of pack's, and of a record before all but
+/// 4.
+fn run_with_grades(trials: &mut Trials, name: &str, service: Service, given: &Fixture, refusal: (u8, usize)) {
+    let (number, at) = refusal;
+    let refused = Expected::refused(number, at);
+    trials.run(name, service, given, &refused);
+    let graded = given.clone().graded(&vec![15; given.m()]);
+    trials.run(&format!("{name}, and grade 15"), service, &graded, &refused);
+    for place in 0..given.m() {
+        let mut grades = vec![0; given.m()];
+        grades[place] = 16;
+        let first = at < place || (at == place && number == 4 && service != Service::Pack);
+        let expected = if first { refused.clone() } else { Expected::refused(5, place) };
+        trials.run(&format!("{name}, and 5 at {place}"), service, &given.clone().graded(&grades), &expected);
+    }
+}
+
 /// Calls at both ends of 128 columns reach over more than 96. As a record they are out of frame, whatever the codes.
 /// No fragment breaks both 17 and 4: without calls it reaches over no column.
 /// The fragment before starts at column 1 or 2, so that this one is out of order, or at 0. The numbers are those of pack,
@@ -215,10 +259,10 @@ fn rules_of_packs_fragments() {
     ];
     for (name, first, letters, tags, [of_pack, of_gapless, of_mates]) in rows {
         let given = Fixture::tagged(&[&padded(first, 128), letters], &tags);
-        trials.run(name, Service::Pack, &given, &Expected::refused(of_pack, 1));
+        run_with_grades(&mut trials, name, Service::Pack, &given, (of_pack, 1));
         for service in OF_TABLES {
             let number = if service.refuses_holes() { of_gapless } else { of_mates };
-            trials.run(name, service, &given, &Expected::refused(number, 1));
+            run_with_grades(&mut trials, name, service, &given, (number, 1));
         }
     }
 }
@@ -226,9 +270,12 @@ fn rules_of_packs_fragments() {
 /// A number and a place by S and F, and by the services that take holes.
 type Refusals = [(u8, usize); 2];
 
-fn refusal(service: Service, [of_gapless, of_mates]: Refusals) -> Expected {
-    let (number, place) = if service.refuses_holes() { of_gapless } else { of_mates };
-    Expected::refused(number, place)
+fn refusal(service: Service, [of_gapless, of_mates]: Refusals) -> (u8, usize) {
+    if service.refuses_holes() {
+        of_gapless
+    } else {
+        of_mates
+    }
 }
 
 /// A later rule of a lower record comes before an earlier rule of a higher one.
@@ -255,7 +302,8 @@ fn records_from_0() {
     ];
     for (name, given, refusals) in &rows {
         for service in OF_TABLES {
-            trials.run(name, service, given, &refusal(service, *refusals));
+            let (number, place) = refusal(service, *refusals);
+            trials.run(name, service, given, &Expected::refused(number, place));
         }
     }
 }
@@ -281,8 +329,9 @@ fn fragments_from_0() {
         ("13 at 1, 13 at 2", ["--A", "-AA", "AAA"], [10, 11, 12], [(13, 1); 2]),
     ];
     for (name, fragments, tags, refusals) in rows {
+        let given = Fixture::tagged(&fragments, &tags);
         for service in SERVICES {
-            trials.run(name, service, &Fixture::tagged(&fragments, &tags), &refusal(service, refusals));
+            run_with_grades(&mut trials, name, service, &given, refusal(service, refusals));
         }
     }
 }
@@ -309,11 +358,11 @@ fn fragments_without_calls_from_0() {
         ("17 at 1, 9 at 2", ["A", "", "A"], [10, 11, 10], [(17, 1), (9, 2)]),
         ("17 at 1, 13 at 2", ["A", "", "A"], [10, 12, 11], [(17, 1), (13, 2)]),
     ];
-    for (name, fragments, tags, [(number, place), of_others]) in rows {
+    for (name, fragments, tags, [of_pack, of_others]) in rows {
         let given = Fixture::tagged(&fragments.map(|letters| padded(letters, 128)), &tags);
-        trials.run(name, Service::Pack, &given, &Expected::refused(number, place));
+        run_with_grades(&mut trials, name, Service::Pack, &given, of_pack);
         for service in OF_TABLES {
-            trials.run(name, service, &given, &Expected::refused(of_others.0, of_others.1));
+            run_with_grades(&mut trials, name, service, &given, of_others);
         }
     }
 }

@@ -111,12 +111,56 @@ fn cells_that_are_not_m_times_n() {
     }
 }
 
+/// Pack's rule 1 too. Its m is the number of tags.
+#[test]
+fn grades_that_are_not_m() {
+    let mut trials = Trials::default();
+    for (m, n) in [(0, 0), (0, 3), (1, 1), (3, 3), (127, 128), (128, 128)] {
+        let whole = diagonal(m, n.max(1)).in_columns(n);
+        trials.run(&format!("{m} fragments, {n} columns"), Pack, &whole, &Expected::packed(&whole));
+        let lengths = [0, m.saturating_sub(1), m + 1, 2 * m, m + 256, m * n, 32 * m];
+        for grades in lengths.into_iter().filter(|&grades| grades != m) {
+            let given = Fixture { grades: vec![0; grades], ..whole.clone() };
+            let name = format!("{m} fragments, {n} columns, {grades} grades");
+            trials.run(&name, Pack, &given, &Expected::refused(1, 0));
+        }
+    }
+}
+
+/// Beside the other lengths that pack tests, some of them right for the number of grades.
+#[test]
+fn grades_and_other_lengths_of_pack() {
+    let mut trials = Trials::default();
+    // The columns, the lengths of tags, cells, grades and the table, and the number.
+    let rows = [
+        ("129 columns", 129, 2, 258, 3, 64, 3),
+        ("a cell too few, a grade too many", 2, 2, 3, 3, 64, 1),
+        ("a cell too many, a grade too few", 2, 2, 5, 1, 64, 1),
+        ("cells as of the grades", 2, 2, 6, 3, 64, 1),
+        ("cells and table as of the grades", 2, 2, 6, 3, 96, 1),
+        ("table as of the grades", 2, 2, 4, 3, 96, 1),
+        ("129 tags, 128 grades", 1, 129, 129, 128, 4128, 1),
+        ("129 tags, 128 grades, cells and table as of these", 1, 129, 128, 128, 4096, 1),
+        ("128 tags, 129 grades", 1, 128, 128, 129, 4096, 1),
+        ("129 tags and grades", 1, 129, 129, 129, 4128, 2),
+        ("a grade too few and no table", 2, 2, 4, 1, 0, 1),
+        ("as many grades as tags, and no table", 2, 2, 4, 2, 0, 11),
+    ];
+    for (name, n, tags, cells, grades, table, number) in rows {
+        let tags = (0..tags).collect();
+        let given = Fixture { n, table: vec![], cells: vec![1; cells], tags, grades: vec![0; grades] };
+        let sizes = Sizes { table, ..Sizes::of(&given) };
+        trials.run_sized(name, Pack, &given, sizes, &Expected::refused(number, 0));
+    }
+}
+
 /// The outputs, each with the service that fills it.
 type Output = (Service, &'static str, fn(&mut Sizes) -> &mut usize);
 
-const OUTPUTS: [Output; 9] = [
+const OUTPUTS: [Output; 10] = [
     (Unpack, "cells", |sizes| &mut sizes.cells),
     (Unpack, "tags", |sizes| &mut sizes.tags),
+    (Unpack, "grades", |sizes| &mut sizes.grades),
     (Pack, "table", |sizes| &mut sizes.table),
     (Check, "answer", |sizes| &mut sizes.answer),
     (ConflictCounts, "counts", |sizes| &mut sizes.counts),
@@ -154,7 +198,7 @@ fn an_output_for_nothing() {
     }
 }
 
-/// One output is short by what the other has too much.
+/// One output is short by what another has too much.
 #[test]
 fn outputs_that_make_up_for_each_other() {
     let mut trials = Trials::default();
@@ -164,11 +208,15 @@ fn outputs_that_make_up_for_each_other() {
     let rows = [
         (Unpack, Sizes { cells: exact.cells - 1, tags: more, ..exact }),
         (Unpack, Sizes { cells: exact.cells + 1, tags: fewer, ..exact }),
+        (Unpack, Sizes { cells: exact.cells - 1, grades: more, ..exact }),
+        (Unpack, Sizes { cells: exact.cells + 1, grades: fewer, ..exact }),
+        (Unpack, Sizes { tags: fewer, grades: more, ..exact }),
+        (Unpack, Sizes { tags: more, grades: fewer, ..exact }),
         (C, Sizes { answer: exact.answer - 1, table: exact.table + 1, ..exact }),
         (C, Sizes { answer: exact.answer + 1, table: exact.table - 1, ..exact }),
     ];
     for (service, sizes) in rows {
-        trials.run_sized("both outputs wrong", service, &given, sizes, &Expected::refused(11, 0));
+        trials.run_sized("two outputs wrong", service, &given, sizes, &Expected::refused(11, 0));
     }
 }
 
