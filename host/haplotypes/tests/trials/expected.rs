@@ -59,9 +59,20 @@ impl Expected {
         Expected { answer: Some(answer(fields)), ..Expected::untouched(Accepted(count)) }
     }
 
-    /// The same of C, whose table has these fragments.
+    /// The same with a count that is so many times as large.
+    pub fn times(self, factor: usize) -> Expected {
+        let Accepted(count) = self.outcome else { panic!("no count: {}", self.outcome) };
+        Expected { outcome: Accepted(factor * count), ..self }
+    }
+
+    /// The same of C, whose table has these fragments, and the grade 0 throughout.
     pub fn corrected(line: &str, fragments: &[impl AsRef<str>]) -> Expected {
-        Expected { table: Some(Fixture::of(fragments).table), ..Expected::listed(line) }
+        Expected::corrected_to(line, &Fixture::of(fragments))
+    }
+
+    /// The same of any tags and grades.
+    pub fn corrected_to(line: &str, corrected: &Fixture) -> Expected {
+        Expected { table: Some(corrected.table.clone()), ..Expected::listed(line) }
     }
 }
 

@@ -1,8 +1,11 @@
 //! Full tables, whose answers follow from how they are made.
 
+use std::ops::Range;
+
 use crate::calls::{Service, Trials};
 use crate::expected::{Each, Expected};
 use crate::fixtures::Fixture;
+use crate::weights::WEIGHTS;
 
 /// The numbers of blocks, or `-`, as a field.
 fn joined(m: usize, block: impl Fn(usize) -> Option<usize>) -> String {
@@ -163,5 +166,103 @@ fn equal_long_fragments() {
         let fields = format!("{} {letters} {} {} {blocks}", "1".repeat(96), "-".repeat(96), "1".repeat(128));
         let name = format!("128 fragments of 96 {letter}s");
         trials.run_each(&name, &given, &Each::of_conflict_free(&given, &fields).too_deep(0));
+    }
+}
+
+/// Eight words. Each column has four As and four Bs, any two words differ on four columns, and any three agree on one.
+///
+/// What the columns cost, by how many of eight fragments with these words are on one side and the rest on the other:
+/// none, 4 on each column, so 28; one, 3 on each, 21; two, 2 on the three columns on which they agree and 4 on the others,
+/// 22; three, 1 on the column on which they agree and 3 on the others, 19; four that agree on a column, 0 there and 4 on
+/// the others, 24; any other four, 2 on the four columns on which three of them agree and 4 on the others, 20. So any
+/// three against the rest cost least, and 11111222 is the first such list. The last three agree on the first column.
+const WORDS: [&str; 8] = ["AAAAAAA", "ABABBAB", "AABBABB", "ABBABBA", "BBBBAAA", "BABABAB", "BBAAABB", "BAABBBA"];
+
+/// The words after correction on the sides 11111222.
+const CORRECTED_WORDS: [&str; 8] =
+    ["ABBBAAA", "ABBBAAA", "ABBBAAA", "ABBBAAA", "ABBBAAA", "BAAABBB", "BAAABBB", "BAAABBB"];
+
+#[test]
+fn three_words_agree_on_one_column() {
+    let letter = |word: usize, c: usize| WORDS[word].as_bytes()[c];
+    let columns =
+        |words: &[usize]| (0..7).filter(|&c| words.iter().all(|&i| letter(i, c) == letter(words[0], c))).count();
+    for (i, j) in (0..8).flat_map(|j| (0..j).map(move |i| (i, j))) {
+        assert_eq!(columns(&[i, j]), 3, "words {i} and {j}");
+        assert!((0..i).all(|h| columns(&[h, i, j]) == 1), "words {i}, {j} and an earlier one");
+    }
+    assert!((0..7).all(|c| (0..8).filter(|&i| letter(i, c) == b'A').count() == 4));
+}
+
+/// A word on columns 0 to 6, 7 to 13, .. as far as these are in the range, and holes elsewhere.
+fn repeated(word: &str, columns: &Range<usize>) -> String {
+    let letter = |c: usize| if columns.contains(&c) { word.as_bytes()[c % 7] as char } else { '-' };
+    (0..128).map(letter).collect()
+}
+
+/// Eight fragments with the words on each range.
+fn spelled(words: [&str; 8], ranges: &[Range<usize>]) -> Vec<String> {
+    ranges.iter().flat_map(|columns| words.map(|word| repeated(word, columns))).collect()
+}
+
+/// C's line where the sides are 11111222 on each range.
+fn line_of_words(total: usize, ranges: usize) -> String {
+    let [one, two] = [CORRECTED_WORDS[0], CORRECTED_WORDS[7]].map(|word| repeated(word, &(0..128)));
+    let blocks = joined(8 * ranges, |i| Some(i / 8 * 8));
+    format!("{total} {} {one} {two} {} {blocks}", "1".repeat(128), "11111222".repeat(ranges))
+}
+
+/// 128 fragments: 15 ranges of seven columns and one of 23, three times seven and the first two again, on which three
+/// that agree on one of these cost 3 × 19 + 1 + 3, and four 60 and at least 4 more. So C changes 15 × 19 + 61 calls, 346.
+/// No two columns of seven part the words alike, so S keeps the first, and those like it. All eight conflict, so F keeps
+/// two.
+///
+/// All on one side would cost 30,720 by the weight 60, but no table has that as its least total: by the eight fragments
+/// of a column, three on a side cost 1 in 8 of the 56 ways and else 3 if there are four As and four Bs, 19 / 7 in the
+/// mean, and less if not. So by a slot below 8 for each fragment some three slots cost at most 128 × 19 / 7, and no table
+/// has over 347 calls changed at the least cost where all weigh the same.
+#[test]
+fn short_words_of_each_grade() {
+    let mut trials = Trials::default();
+    let ranges: Vec<Range<usize>> = (0..16).map(|k| 7 * k..if k < 15 { 7 * k + 7 } else { 128 }).collect();
+    let all = |word| repeated(word, &(0..128));
+    let (every, first_two) = (joined(128, |i| Some(i / 8 * 8)), joined(128, |i| (i % 8 < 2).then_some(i / 8 * 8)));
+    let s = format!("109 {} {} {} {} {every}", all("1000000"), all("A######"), all("B######"), "11112222".repeat(16));
+    let f = format!("96 {} {} {} {} {first_two}", "1".repeat(128), all(WORDS[0]), all(WORDS[1]), "12000000".repeat(16));
+    let letter = |i: usize, c: usize| WORDS[i % 8].as_bytes()[c % 7];
+    let counted = Expected::counted_by(128, |i, j| {
+        ranges[i / 8].clone().filter(|&c| i / 8 == j / 8 && letter(i, c) != letter(j, c)).count()
+    });
+    let given = |grades: &[u8]| Fixture::of(&spelled(WORDS, &ranges)).graded(grades);
+    let corrected = |total: usize, grades: &[u8]| {
+        let after = Fixture::of(&spelled(CORRECTED_WORDS, &ranges)).graded(grades);
+        Expected::corrected_to(&line_of_words(total, 16), &after)
+    };
+    for (grade, total) in [(0, 346), (15, 20_760)] {
+        let (given, c) = (given(&[grade; 128]), corrected(total, &[grade; 128]));
+        let each = Each::of_errors(&given, counted.clone(), [Expected::listed(&s), Expected::listed(&f), c]);
+        trials.run_each(&format!("grade {grade}"), &given, &each);
+    }
+    for (grade, weight) in (0..).zip(WEIGHTS) {
+        let grades = [grade; 128];
+        trials.run(&format!("grade {grade}"), Service::C, &given(&grades), &corrected(346 * weight, &grades));
+    }
+    // The weights of the grades 0 to 14 are 224 together: 19 × 224 + 61 × 60.
+    let grades: Vec<u8> = (0..128).map(|i| i / 8).collect();
+    trials.run("a grade to each range", Service::C, &given(&grades), &corrected(7_916, &grades));
+}
+
+/// 16 fragments: columns 0 to 95 are 13 times seven and the first five again, on which three that agree on one of these
+/// cost 13 × 19 + 1 + 4 × 3, and four 260 and at least 10 more; the others are four times seven and four more columns, on
+/// which three cost 4 × 19 + 1 + 3 × 3, and four 80 and at least 8 more. That is 260 + 86.
+#[test]
+fn long_words_of_each_grade() {
+    let mut trials = Trials::default();
+    let ranges = [0..96, 96..128];
+    for (grade, weight) in (0..).zip(WEIGHTS) {
+        let [given, after] =
+            [WORDS, CORRECTED_WORDS].map(|words| Fixture::of(&spelled(words, &ranges)).graded(&[grade; 16]));
+        let c = Expected::corrected_to(&line_of_words(346 * weight, 2), &after);
+        trials.run(&format!("grade {grade}"), Service::C, &given, &c);
     }
 }

@@ -19,3 +19,4 @@ mod out_of_order;
 mod records;
 mod sizes;
 mod spans;
+mod weights;
