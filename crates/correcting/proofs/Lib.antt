@@ -1,1 +1,2 @@
 pub mod TableCorrectionLaws
+pub mod TotalLaws
