@@ -3,7 +3,7 @@
 use crate::buffers::Buffers;
 use crate::plain;
 use crate::request::{Form, Request};
-use crate::services::{self, Implementation, Service};
+use crate::services::{self, Call, Implementation, Service};
 use crate::tables::Kind;
 use haplotypes::Outcome;
 
@@ -47,9 +47,10 @@ impl Left {
 /// What all leave of a request, or what is wrong with it.
 pub fn agree(request: Request, all: &All) -> Result<Left, String> {
     let [first, others @ ..] = all;
-    let expected = left(request, first)?;
+    let given = request.call();
+    let expected = left(request, &given, first)?;
     for other in others {
-        if let Some(difference) = left(request, other)?.difference(&expected) {
+        if let Some(difference) = left(request, &given, other)?.difference(&expected) {
             return Err(format!("{} and {} differ on {request}: {difference}", other.name, first.name));
         }
     }
@@ -60,13 +61,12 @@ pub fn agree(request: Request, all: &All) -> Result<Left, String> {
 }
 
 /// What one leaves. No byte is changed but those of the buffers that an accepted call writes.
-fn left(request: Request, implementation: &Implementation) -> Result<Left, String> {
-    let (call, before) = request.call();
+fn left(request: Request, (call, before): &(Call, Buffers), implementation: &Implementation) -> Result<Left, String> {
     let mut buffers = before.clone();
-    let outcome = (implementation.call)(&call, &mut buffers);
+    let outcome = (implementation.call)(call, &mut buffers);
     let left = Left { outcome, buffers };
     let written = if left.is_accepted() { request.service.written() } else { &[] };
-    match left.buffers.difference(&before, written) {
+    match left.buffers.difference(before, written) {
         None => Ok(left),
         Some(change) => Err(format!("{} writes where it may not on {request}: {change}", implementation.name)),
     }
