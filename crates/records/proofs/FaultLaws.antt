@@ -1,4 +1,4 @@
--- A record's rules: 8 by a switch, what 4 says of the span, and what 6 and 7 leave of 8.
+-- A record's rules: 5 from the grade, 8 by a switch, what 4 says of the span, and what 6 and 7 leave of 8.
 -- Assumes nothing.
 use mathlib.Core.Path.{_≡_, refl, sym, ap, _∙_}
 use mathlib.Core.Bool.{Bool, true, false}
@@ -7,17 +7,27 @@ use Prim.Native.Nat.{ℕ, _-_, _≤_, _<_, min}
 use native.Mathlib.Nat.{zero-add}
 use native.Mathlib.Omega.{arith}
 use lib.Dec.{T}
-use Rattle.below.specs.Below.{if_then_else_, anyBelow, _==_, _<?_, _and_, _or_}
-use Rattle.records.specs.Record.{spanOf, isCall, cellOf}
+use Rattle.below.specs.Below.{if_then_else_, anyBelow, _==_, _<?_, _≤?_, _and_, _or_, isnt}
+use Rattle.records.specs.Record.{spanOf, gradeOf, isCall, cellOf}
 use Rattle.records.specs.Table.{recordAt, startAt, tagAt}
 use Rattle.records.specs.Outcome.{Verdict}
-use Rattle.records.specs.Rules.{rule, decide, outOfFrame, unknownCall, openEnd, gapped, earlierRules, spanRules, recordRules, gaplessRules}
+use Rattle.records.specs.Rules.{rule, decide, outOfFrame, strayBits, unknownCall, openEnd, gapped, earlierRules, spanRules, recordRules, gaplessRules}
 use Rattle.records.specs.Algorithm.Kept.{rulesOf}
-use Rattle.below.proofs.BelowLaws.{if-ind, T-isnt, ==-eq, fails, isnt-<?, neither, eq-==, both, or-left, or-right, anyBelow-of, lt-<?}
+use Rattle.below.proofs.BelowLaws.{is-true, if-ind, T-isnt, ==-eq, fails, isnt-<?, neither, eq-==, both, or-left, or-right, anyBelow-of, lt-<?}
 use Rattle.records.proofs.ByteLaws.{cell-small}
-use Rattle.below.proofs.SearchLaws.{false-T}
+use Rattle.below.proofs.SearchLaws.{false-T, <?-false}
 use Rattle.records.proofs.RuleLaws.{rule-kept, decide-append}
 use Rattle.records.proofs.ExtentLaws.{Extent, call-of, gap-within}
+
+-- 5, from the grade that was read
+module _ (r : List ℕ) {g : ℕ} (read : g ≡ gradeOf r) where
+  pub stray-graded : 15 < g → true ≡ strayBits r
+  unfolding strayBits
+  stray-graded h = is-true _ (or-left _ _ (lt-<? 15 _ (omega arith)))
+
+  pub stray-cells : {stray : Bool} → g ≤ 15 → stray ≡ anyBelow 96 (λ k. spanOf r ≤? k and isnt (cellOf r k == 0)) → stray ≡ strayBits r
+  unfolding strayBits _or_
+  stray-cells h e = rw (<?-false 15 (gradeOf r) (omega arith)) e
 
 -- the rules by a switch are those of one list, in which 8 is broken only where the switch is on
 pub switched : (gapless : Bool) (n : ℕ) (table : List ℕ) (i : ℕ) (v : Verdict)
