@@ -1,7 +1,7 @@
 -- What the sizes of a call of pack say once rules 3, 1 and 2 are kept.
 -- Assumes nothing.
 use mathlib.Core.Path.{_≡_, refl, sym, ap, _∙_}
-use mathlib.Core.Bool.{false}
+use mathlib.Core.Bool.{true, false}
 use mathlib.Core.List.{List, List·Memᴰ·head, List·Memᴰ·tail}
 use Prim.Native.Nat.{ℕ, _+_, _*_, _/_, _%_, _≤_, _<_}
 use native.Mathlib.Nat.{mul-zero, div-add-mod', mul-mod-left, mul-div-cancel}
@@ -10,8 +10,10 @@ use lib.Dec.{T, eqb}
 use lib.ListN.{length}
 use Rattle.below.specs.Below.{_==_, _or_, isnt}
 use Rattle.below.proofs.BelowLaws.{isnt-isnt, T-isnt-isnt, neither, isnt-or, isnt-<?, le-isnt, same-test, ==-eq, eq-==}
-use Rattle.below.proofs.SearchLaws.{==-false}
+use Rattle.below.proofs.SearchLaws.{==-false, <?-false}
 use Rattle.below.proofs.RowLaws.{row-within}
+use Rattle.records.specs.Outcome.{Verdict, refused}
+use Rattle.records.specs.Rules.{decide}
 use Rattle.records.proofs.RuleLaws.{decide-none, unbroken}
 use Rattle.records.proofs.KeptLaws.{rule-unbroken}
 use Rattle.conflicts.specs.Services.{packSizeRules}
@@ -49,6 +51,12 @@ unfolding packSizeRules
 pack-sized-of wide exact graded few = record {
   kept = rule-unbroken _ _ _ (le-isnt _ _ wide) ∙ rule-unbroken _ _ _ (isnt-or _ _ (T-isnt-isnt _ (eq-== _ _ exact)) (T-isnt-isnt _ (eq-== _ _ graded))) ∙ rule-unbroken _ _ _ (le-isnt _ _ few) ∙ decide-none _;
 }
+
+-- 1, of grades that are not m
+pub grades-refused : (n : ℕ) (cells tags grades : List ℕ) (v : Verdict) → n ≤ 128 → (length cells == length tags * n) ≡ true → (length grades ≡ length tags → ⊥)
+    → refused 1 0 ≡ decide (packSizeRules n cells tags grades) v
+unfolding packSizeRules decide _or_ isnt
+grades-refused n cells tags grades v wide exact f = rw (<?-false 128 n wide, exact, ==-false (length grades) (length tags) f)
 
 -- ---- a length that is a product, by a division
 

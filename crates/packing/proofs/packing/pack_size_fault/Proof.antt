@@ -5,8 +5,9 @@ use borrow.Author.Tests.{not-true, not-false}
 use borrow.Author.Needs.{needs}
 use Rattle.records.specs.Rules.{decide}
 use Rattle.below.specs.Below.{_or_, isnt}
-use Rattle.below.proofs.SearchLaws.{==-true, ==-false, <?-true, <?-false}
+use Rattle.below.proofs.SearchLaws.{==-true, <?-true, <?-false}
 use Rattle.conflicts.specs.Services.{packSizeRules}
+use Rattle.packing.proofs.SizeLaws.{grades-refused}
 use Rattle.packing.proofs.packing.pack_size_fault.Statement.{statement}
 use Rattle.packing.proofs.packing.pack_size_fault.Tie as tie
 
@@ -19,8 +20,7 @@ unfolding packSizeRules decide _or_ isnt
 returns-2 c = rw (<?-false 128 _ (c .before .before .if1 .left), sym (c .before .is-product .ensures) ∙ not-true _ (c .if2 .taken))
 
 returns-3 : tie.Need-returns-3
-unfolding packSizeRules decide _or_ isnt
-returns-3 c = rw (<?-false 128 _ (c .before .before .before .if1 .left), sym (c .before .before .is-product .ensures) ∙ not-false _ (c .before .if2 .left), ==-false _ _ (c .if3 .taken))
+returns-3 c = grades-refused _ _ _ _ _ (c .before .before .before .if1 .left) (sym (c .before .before .is-product .ensures) ∙ not-false _ (c .before .if2 .left)) (c .if3 .taken)
 
 returns-4 : tie.Need-returns-4
 unfolding packSizeRules decide _or_ isnt
