@@ -124,7 +124,7 @@ pub extern "C" fn haplotypes_least_fragment_removal(
     host_number(4294967296, least_fragment_removal(n, table, work, answer))
 }
 
-// C: the number of corrected calls, or a refusal.
+// C: the total of the corrected calls, or a refusal.
 #[no_mangle]
 pub extern "C" fn haplotypes_least_corrections(
     n: usize,
