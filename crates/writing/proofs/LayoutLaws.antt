@@ -1,29 +1,27 @@
 -- The bytes of a record that is written from a row, and what writing it did.
 -- Assumes nothing.
-use mathlib.Core.Path.{_≡_, refl, sym, ap, ap₂, _∙_}
+use mathlib.Core.Path.{_≡_, refl, sym, ap, ap₂, fun-ext, _∙_}
 use mathlib.Core.Bool.{true, false}
 use mathlib.Core.List.{List, [], _∷_, _++_}
 use Prim.Native.Nat.{ℕ, _+_, _*_, _-_, _^_, _≤_, _<_}
 use native.Mathlib.Decide.{decLe}
 use native.Mathlib.Omega.{arith}
 use lib.Dec.{T, leb}
-use lib.ListN.{length, getD, set, List·getD-eq-default}
-use lib.Seq.{getD-set-same, getD-set-other, getD-drop, ext-getD}
-use borrow.Author.Count.{below-more}
-use Rattle.below.specs.Below.{_≤?_, isnt, anyBelow, sumBelow}
-use Rattle.records.specs.Writing.{bytesOf, callsStart, callsSpan, codesOf, cut, laidOut, recordOf, writableRow, writable, RecordWritten}
-use Rattle.below.proofs.BelowLaws.{both, left-of, right-of, T-isnt, isnt-T, is-true, is-false, same-test, le-≤?, isnt-<?, ≤?-le, none-at, ==-eq, eq-==}
+use lib.ListN.{length, getD, take, drop, length-drop, List·getD-append, List·getD-eq-default}
+use lib.Seq.{getD-take, getD-drop, length-take-le, ext-getD}
+use borrow.Rule.Slice.PartMut.{putMid, same-len-mid, mid-len}
+use Rattle.below.specs.Below.{_≤?_, isnt, anyBelow, sumBelow, tab}
+use Rattle.records.specs.Writing.{bytesOf, callsStart, callsSpan, cellBytes, codesOf, cut, laidOut, recordOf, writableRow, writable, RecordWritten}
+use Rattle.below.proofs.BelowLaws.{both, left-of, right-of, T-isnt, isnt-T, is-true, is-false, same-test, le-≤?, isnt-<?, ≤?-le, none-at, ==-eq, eq-==, length-tab}
+use Rattle.below.proofs.FillLaws.{filled-none, filled-part}
+use Rattle.below.proofs.RowLaws.{tab-ext}
 use Rattle.records.proofs.ByteLaws.{four, cellByte-at}
 use Rattle.writing.proofs.ScanLaws.{unknown}
-use Rattle.records.proofs.PackLaws.{length-laidOut}
+use Rattle.records.proofs.PackLaws.{length-laidOut, cut-in, cut-out}
 
 -- ---- a row that is writable
 
 module _ (row : List ℕ) (w : T (writableRow (length row) (codesOf row))) where
-  pub writable-wide : length row ≤ 128
-  unfolding writableRow
-  writable-wide = ≤?-le _ _ (left-of _ _ (left-of _ _ w))
-
   pub writable-narrow : callsSpan (length row) (codesOf row) ≤ 96
   unfolding writableRow
   writable-narrow = ≤?-le _ _ (right-of _ _ w)
@@ -55,31 +53,69 @@ pub cellByte-of : (codes : ℕ → ℕ) (b a0 a1 a2 a3 : ℕ) → a0 ≡ codes (
 unfolding sumBelow
 cellByte-of codes b a0 a1 a2 a3 e0 e1 e2 e3 = let z : codes (4 * b + 0) ≡ codes (4 * b) = ap codes (omega arith) in omega arith
 
-module _ (t f s g : ℕ) (codes : ℕ → ℕ) where
-  pub tag-byte-at : (k : ℕ) → k < 4 → getD (laidOut t f s g codes) k 0 ≡ getD (bytesOf 4 t) k 0
-  unfolding laidOut bytesOf
-  tag-byte-at = four (λ k. getD (laidOut t f s g codes) k 0 ≡ getD (bytesOf 4 t) k 0) refl refl refl refl
+-- byte b of the cells
+abbrev pub cellByte : (ℕ → ℕ) → ℕ → ℕ
+cellByte codes b = sumBelow 4 (λ q. 4 ^ q * codes (4 * b + q))
 
-  pub frame-byte-at : (k : ℕ) → 4 ≤ k → k < 8 → getD (laidOut t f s g codes) k 0 ≡ getD (bytesOf 2 f ++ s ∷ g ∷ []) (k - 4) 0
-  unfolding laidOut bytesOf
+-- the 8 bytes before the cells
+abbrev pub header : ℕ → ℕ → ℕ → ℕ → List ℕ
+header t f s g = bytesOf 4 t ++ bytesOf 2 f ++ s ∷ g ∷ []
+
+module _ (t f s g : ℕ) where
+  pub tag-byte-at : (k : ℕ) → k < 4 → getD (header t f s g) k 0 ≡ getD (bytesOf 4 t) k 0
+  unfolding bytesOf
+  tag-byte-at = four (λ k. getD (header t f s g) k 0 ≡ getD (bytesOf 4 t) k 0) refl refl refl refl
+
+  pub frame-byte-at : (k : ℕ) → 4 ≤ k → k < 8 → getD (header t f s g) k 0 ≡ getD (bytesOf 2 f ++ s ∷ g ∷ []) (k - 4) 0
+  unfolding bytesOf
   frame-byte-at k l h =
-      ap (λ (j : ℕ). getD (laidOut t f s g codes) j 0) (let e : k ≡ 4 + (k - 4) = omega arith in e)
-      ∙ four (λ j. getD (laidOut t f s g codes) (4 + j) 0 ≡ getD (bytesOf 2 f ++ s ∷ g ∷ []) j 0) refl refl refl refl (k - 4) (omega arith)
+      ap (λ (j : ℕ). getD (header t f s g) j 0) (let e : k ≡ 4 + (k - 4) = omega arith in e)
+      ∙ four (λ j. getD (header t f s g) (4 + j) 0 ≡ getD (bytesOf 2 f ++ s ∷ g ∷ []) j 0) refl refl refl refl (k - 4) (omega arith)
 
-  pub cell-byte-at : (k : ℕ) → 8 ≤ k → k < 32 → getD (laidOut t f s g codes) k 0 ≡ sumBelow 4 (λ q. 4 ^ q * codes (4 * (k - 8) + q))
-  unfolding laidOut bytesOf
-  cell-byte-at k l h =
-      ap (λ (j : ℕ). getD (laidOut t f s g codes) j 0) (let e : k ≡ 8 + (k - 8) = omega arith in e)
-      ∙ sym (getD-drop 8 (laidOut t f s g codes) (k - 8) 0)
-      ∙ cellByte-at codes (k - 8) (omega arith)
+  module _ (codes : ℕ → ℕ) where
+    laid-parts : laidOut t f s g codes ≡ header t f s g ++ cellBytes codes
+    unfolding laidOut bytesOf
+    laid-parts = refl
 
-  pub filled : (l : List ℕ) → length l ≡ 32 → ((j : ℕ) → j < 32 → getD l j 0 ≡ getD (laidOut t f s g codes) j 0) → l ≡ laidOut t f s g codes
-  filled l e h = ext-getD 0 l (laidOut t f s g codes) (e ∙ sym (length-laidOut t f s g codes)) (λ j k. h j (omega arith))
+    header-long : length (header t f s g) ≡ 8
+    unfolding bytesOf
+    header-long = refl
 
--- one byte more of a list is as f says
-pub fill-next : (f : ℕ → ℕ) (l : List ℕ) (k v : ℕ) → k < length l → ((j : ℕ) → j < k → getD l j 0 ≡ f j) → v ≡ f k → (j : ℕ) → j < k + 1 → getD (set l k v) j 0 ≡ f j
-fill-next f l k v within below e =
-    below-more (λ (j : ℕ). getD (set l k v) j 0 ≡ f j) k (λ j h. getD-set-other l k j v 0 (λ q. omega arith) ∙ below j h) (getD-set-same l k v 0 within ∙ e)
+    header-at : (k : ℕ) → k < 8 → getD (laidOut t f s g codes) k 0 ≡ getD (header t f s g) k 0
+    header-at k h = let e = header-long in ap (λ (l : List ℕ). getD l k 0) laid-parts ∙ List·getD-append (header t f s g) _ 0 k (omega arith)
+
+    cells-at : (b : ℕ) → b < 24 → getD (laidOut t f s g codes) (8 + b) 0 ≡ cellByte codes b
+    unfolding laidOut bytesOf
+    cells-at b h = sym (getD-drop 8 (laidOut t f s g codes) b 0) ∙ cellByte-at codes b h
+
+    -- a record whose header and cells are written, each in its place
+    pub laid : (old first rest : List ℕ) → length old ≡ 32 → first ≡ tab 8 (λ k. getD (header t f s g) k 0) → rest ≡ cellBytes codes → putMid 8 24 (putMid 0 8 old first) rest ≡ laidOut t f s g codes
+    unfolding cellBytes
+    laid old first rest long e d =
+        let at : ℕ → ℕ = λ j. getD (laidOut t f s g codes) j 0 in
+        let few : length first ≡ 8 = ap length e ∙ length-tab 8 _ in
+        let many : length rest ≡ 24 = ap length d ∙ length-tab 24 _ in
+        let one = filled-part 32 at 0 8 old first (filled-none 32 at old long) (omega arith) (same-len-mid 0 8 old first (few ∙ sym (mid-len 0 8 old (omega arith)))) (e ∙ tab-ext 8 _ _ (λ k h. sym (let z : 0 + k ≡ k = omega arith in ap at z ∙ header-at k h))) in
+        let all = filled-part 32 at 8 24 _ rest one (omega arith) (same-len-mid 8 24 (putMid 0 8 old first) rest (many ∙ sym (mid-len 8 32 (putMid 0 8 old first) (let s = one .sized in omega arith)))) (d ∙ tab-ext 24 _ _ (λ b h. sym (cells-at b h))) in
+        ext-getD 0 _ (laidOut t f s g codes) (all .sized ∙ sym (length-laidOut t f s g codes)) (λ j h. all .done j (let s = all .sized in omega arith))
+
+-- the codes of a span, as a part of the row
+pub cut-part : (row : List ℕ) (f s : ℕ) → f + s ≤ length row → cut f s (codesOf row) ≡ codesOf (take (f + s - f) (drop f row))
+cut-part row f s h = fun-ext (λ i. elim (decLe s i) [
+  | yes l ↦
+      let d = length-drop f row in
+      let e = length-take-le (f + s - f) (drop f row) (omega arith) in
+      cut-out f s (codesOf row) i l ∙ sym (List·getD-eq-default (take (f + s - f) (drop f row)) 0 {n = i} (omega arith))
+  | no l ↦
+      cut-in f s (codesOf row) i (omega arith) ∙ sym (getD-take (f + s - f) (drop f row) i 0 (omega arith) ∙ getD-drop f row i 0)
+])
+
+-- whose codes are those of a writable row, or 0
+pub part-small : (row : List ℕ) (f s : ℕ) → T (writableRow (length row) (codesOf row)) → f + s ≤ length row → (i : ℕ) → codesOf (take (f + s - f) (drop f row)) i ≤ 2
+part-small row f s w h i = elim (decLe s i) [
+  | yes l ↦ let e = sym (ap (λ (codes : ℕ → ℕ). codes i) (cut-part row f s h)) ∙ cut-out f s (codesOf row) i l in omega arith
+  | no l ↦ let e = sym (ap (λ (codes : ℕ → ℕ). codes i) (cut-part row f s h)) ∙ cut-in f s (codesOf row) i (omega arith) in let k = writable-small row w (f + i) in omega arith
+]
 
 -- ---- what writing a record did
 

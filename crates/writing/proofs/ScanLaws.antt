@@ -1,18 +1,18 @@
 -- What a loop over a row's columns has found when it ends or returns.
 -- Assumes nothing.
-use mathlib.Core.Path.{_≡_, refl, sym}
+use mathlib.Core.Path.{_≡_, refl, sym, ap, ap₂, _∙_}
 use mathlib.Core.Logic.{inl, inr}
-use mathlib.Core.Bool.{Bool, true}
+use mathlib.Core.Bool.{Bool, true, _||_}
 use Prim.Native.Nat.{ℕ, zero, suc, _+_, _-_, _≤_, _<_}
 use native.Mathlib.Nat.{eq-zero-or-pos}
 use native.Mathlib.Decide.{decLe}
 use native.Mathlib.Omega.{arith}
-use lib.Dec.{T}
-use Rattle.below.specs.Below.{_<?_, isnt, endBelow, firstBelow}
+use lib.Dec.{T, ltb}
+use Rattle.below.specs.Below.{_<?_, _or_, isnt, anyBelow, endBelow, firstBelow}
 use Rattle.records.specs.Record.{isCall}
 use Rattle.records.specs.Writing.{callsEnd, callsStart, callsSpan}
 use Rattle.below.proofs.BelowLaws.{if-true, if-false, firstBelow-at, firstBelow-least}
-use Rattle.below.proofs.SearchLaws.{NoneBelow, true-T, false-T}
+use Rattle.below.proofs.SearchLaws.{NoneBelow, any-more, true-T, false-T}
 use Rattle.records.proofs.ExtentLaws.{calls, endBelow-le, endBelow-at, endBelow-past, start-none, start-some, extent-of}
 
 suc-sub : (c : ℕ) → suc c - 1 ≡ c
@@ -44,6 +44,11 @@ start-miss n row c h t = elim (eq-zero-or-pos (endBelow n (calls row))) [
 -- the codes without a meaning
 abbrev pub unknown : (ℕ → ℕ) → ℕ → Bool
 unknown row c = 2 <? row c
+
+-- whether one of them stands before a column, from one column to the next
+pub unknown-more : (row : ℕ → ℕ) (c code : ℕ) (found : Bool) → found ≡ anyBelow c (unknown row) → code ≡ row c → (found || ltb 2 code) ≡ anyBelow (c + 1) (unknown row)
+unfolding _or_ _<?_
+unknown-more row c code found e d = ap₂ _||_ e (ap (ltb 2) d) ∙ sym (any-more (unknown row) c)
 
 -- the calls lie within the row
 pub span-fits : (n : ℕ) (row : ℕ → ℕ) (start span : ℕ) → start ≡ callsStart n row → span ≡ callsSpan n row → start + span ≤ n

@@ -53,12 +53,11 @@ pub fn calls_span(row: &[u8]) -> usize
 pub fn any_unknown(row: &[u8]) -> bool
     ensures { λ r. ⌜ r ≡ anyBelow (length (now (row .entry))) (λ c. 2 <? codesOf (now (row .entry)) c) ⌝ }
 {
+    let mut found = false;
     let mut c = 0;
     while c < row.len() {
-        if 2 < byte(row, c) {
-            return true;
-        }
+        found = found | (2 < byte(row, c));
         c += 1;
     }
-    false
+    found
 }

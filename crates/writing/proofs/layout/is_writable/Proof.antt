@@ -21,9 +21,10 @@ returns-2 c =
 
 returns-3 : tie.Need-returns-3
 returns-3 c =
-    let row = c .before .before .before .before .before .args .row .now in
-    writable-by-span (length row) (codesOf row) _ (omega arith) (fails (c .before .before .any-unknown .ensures) (c .before .if2 .left)) (c .calls-span .ensures)
+    let start = c .before .before .before .before in
+    let row = start .args .row .now in
+    writable-by-span (length row) (codesOf row) _ (omega arith) (fails (c .before .any-unknown .ensures) (c .if2 .left)) (start .pre)
 
 pub is-writable-spec : {M : Type 1} → statement M
 is-writable-spec =
-    tie.close (tie.spec returns (λ c κs. search needs) returns-2 (λ c κs. search needs) returns-3)
+    tie.close (tie.spec returns (λ c κs. search needs) returns-2 returns-3)
