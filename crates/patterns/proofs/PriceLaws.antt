@@ -1,14 +1,14 @@
 -- What a mask costs at the prices of a column, slot by slot.
 -- Assumes nothing.
-use mathlib.Core.Path.{_≡_, refl, ap, ap₂, _∙_}
+use mathlib.Core.Path.{_≡_, refl, ap₂, _∙_}
 use mathlib.Core.List.{List}
-use Prim.Native.Nat.{ℕ, zero, suc, _+_, _*_, _≤_, _<_, min, zero-le}
+use Prim.Native.Nat.{ℕ, zero, suc, _+_, _*_, _≤_, zero-le}
 use native.Mathlib.Numerals.{add-one}
 use native.Mathlib.Omega.{arith}
 use Rattle.below.specs.Below.{nth, if_then_else_, sumBelow, _==_}
 use Rattle.below.proofs.BelowLaws.{if-ind}
 use Rattle.events.specs.Algorithm.Slots.{digit}
-use Rattle.patterns.specs.Algorithm.Patterns.{Prices, slotShare, slotTotal}
+use Rattle.patterns.specs.Algorithm.Patterns.{Prices, slotShare}
 
 pub total-none : (prices : List ℕ) (mask d : ℕ) → 0 ≡ sumBelow 0 (slotShare prices mask d)
 unfolding sumBelow

@@ -1,6 +1,6 @@
 -- `sweep::column` meets its contract. The loop's invariant: the table holds the least weights from the events of fragment f at the column on.
 -- Assumes nothing.
-use mathlib.Core.Path.{_≡_, refl, sym, _∙_}
+use mathlib.Core.Path.{refl, sym, _∙_}
 use mathlib.Core.List.{List}
 use lib.ListN.{replicate}
 use Prim.Native.Nat.{ℕ, suc, _+_, _-_, _≤_}

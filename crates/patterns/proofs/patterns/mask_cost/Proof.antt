@@ -1,6 +1,6 @@
 -- `patterns::mask_cost` meets its contract.
 -- Assumes nothing.
-use mathlib.Core.Path.{_≡_, ap₂, _∙_}
+use mathlib.Core.Path.{ap₂, _∙_}
 use Prim.Native.Nat.{_+_, min}
 use borrow.Author.Needs.{needs}
 use Rattle.conflicts.specs.Corrections.{sidePrice}
