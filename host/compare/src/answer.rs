@@ -6,7 +6,7 @@ use crate::rules::Refusal;
 pub const REMOVED_FRAGMENT: u8 = 0;
 const NO_BLOCK: u8 = 255;
 
-/// Sides are 1 and 2, 0 for a removed fragment; a removed fragment has no block.
+/// The count is C's total, and check's is 0. Sides are 1 and 2, 0 for a removed fragment; a removed fragment has no block.
 #[derive(Clone, PartialEq, Eq, Debug)]
 pub struct Answer {
     pub count: usize,

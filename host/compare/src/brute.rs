@@ -29,6 +29,7 @@ pub fn least_fragment_removal(matrix: &Matrix) -> Answer {
     phased(matrix, count, keep, sides)
 }
 
+/// The first side list of least cost, the cost being the sum over columns and sides of the smaller of the weights of A and B.
 pub fn least_corrections(matrix: &Matrix) -> Answer {
     let kept = vec![true; matrix.m()];
     let mut best: Option<(usize, Vec<u8>)> = None;
@@ -39,11 +40,18 @@ pub fn least_corrections(matrix: &Matrix) -> Answer {
             best = Some((cost, sides));
         }
     }
-    let (count, sides) = best.expect("there is a side list");
+    let (least, sides) = best.expect("there is a side list");
+    let answer = with_sides(matrix, sides);
+    assert_eq!(answer.count, least, "the cost of the sides is the total of the changed calls");
+    answer
+}
+
+/// C's answer with these sides: its number is the total of the weights over the changed calls.
+pub fn with_sides(matrix: &Matrix, sides: Vec<u8>) -> Answer {
     let corrected = corrected(matrix, &sides);
-    let changed = (0..matrix.m()).map(|f| differences(&matrix.rows[f], &corrected.rows[f])).sum::<usize>();
-    assert_eq!(count, changed, "the cost is the number of changed calls");
-    phased(&corrected, count, vec![true; matrix.n], sides)
+    let changed = (0..matrix.m()).map(|f| matrix.weights[f] * differences(&matrix.rows[f], &corrected.rows[f]));
+    let total = changed.sum();
+    phased(&corrected, total, vec![true; matrix.n], sides)
 }
 
 /// The first of the choices over k things that remove the fewest, among those that have a side list.
@@ -101,29 +109,30 @@ fn bit(choice: u64, k: usize, i: usize) -> bool {
     choice >> (k - 1 - i) & 1 == 1
 }
 
-/// The sum over columns and sides of the smaller of the counts of A and B.
 fn cost(matrix: &Matrix, sides: &[u8]) -> usize {
-    let price = |c: usize, side: u8| count(matrix, sides, side, c, A).min(count(matrix, sides, side, c, B));
+    let price = |c: usize, side: u8| weight(matrix, sides, side, c, A).min(weight(matrix, sides, side, c, B));
     (0..matrix.n).map(|c| price(c, 1) + price(c, 2)).sum()
 }
 
-fn count(matrix: &Matrix, sides: &[u8], side: u8, c: usize, letter: u8) -> usize {
-    (0..matrix.m()).filter(|&f| sides[f] == side && matrix.rows[f][c] == letter).count()
+/// The weight of a letter on a side at a column: the sum of the weights of the side's fragments that have it.
+pub fn weight(matrix: &Matrix, sides: &[u8], side: u8, c: usize, letter: u8) -> usize {
+    let having = (0..matrix.m()).filter(|&f| sides[f] == side && matrix.rows[f][c] == letter);
+    having.map(|f| matrix.weights[f]).sum()
 }
 
-/// The matrix with the rarer letter of each column and side changed; on equal counts the Bs become A.
+/// The matrix with the letter of smaller weight of each column and side changed; on equal weights the Bs become A.
 pub fn corrected(matrix: &Matrix, sides: &[u8]) -> Matrix {
     let mut corrected = matrix.clone();
     for (f, row) in corrected.rows.iter_mut().enumerate() {
         for (c, cell) in row.iter_mut().enumerate().filter(|(_, cell)| **cell != HOLE) {
-            let counts = |letter| count(matrix, sides, sides[f], c, letter);
-            *cell = if counts(A) < counts(B) { B } else { A };
+            let weight = |letter| weight(matrix, sides, sides[f], c, letter);
+            *cell = if weight(A) < weight(B) { B } else { A };
         }
     }
     corrected
 }
 
-fn differences(one: &[u8], other: &[u8]) -> usize {
+pub fn differences(one: &[u8], other: &[u8]) -> usize {
     one.iter().zip(other).filter(|(x, y)| x != y).count()
 }
 

@@ -1,6 +1,7 @@
 //! One table through the listing program and through every service, compared with what is expected.
 
 use crate::calls::{self, Table};
+use crate::expected::Outcome;
 use crate::library::proved;
 use crate::rng::Rng;
 use crate::seen::{Counts, Seen};
@@ -17,6 +18,9 @@ pub fn table(bytes: &[u8], listing: Option<&Path>, rng: &mut Rng) -> Result<Coun
         counts.add(Seen::Listing, 1);
         let gapped = ["\nS refused 8 at ", "\nF refused 8 at "].iter().all(|line| text.contains(line));
         counts.add(Seen::GappedListing, gapped as usize);
+        let graded =
+            matches!(&outcome, Outcome::Accepted(table) if table.is_graded() && table.answers.corrections.is_ok());
+        counts.add(Seen::GradedListing, graded as usize);
         if rng.chance(8) {
             listing_in_pieces_says(program, bytes, &text, rng)?;
             counts.add(Seen::ListingInPieces, 1);

@@ -4,10 +4,10 @@
 //!
 //! The listing meets the refusals 1 to 7, 9 and 13, in the lines of S and F 8, and in C's 12. It never meets 10 and 11, as it
 //! lends itself enough work and buffers of the right length. Every service meets the refusals that it has, and no other: 8 is of S
-//! and F alone, 10 of those that borrow work, 12 of C alone, 17 of pack alone, pack has neither 5 nor 7, as cells have no stray
-//! bits and no ends, and find refuses nothing.
+//! and F alone, 10 of those that borrow work, 12 of C alone, 17 of pack alone, pack has no 7, as cells have no ends, and find
+//! refuses nothing.
 
-use crate::rules::REFUSALS;
+use crate::rules::{REFUSALS, RULES_OF_RECORDS};
 use crate::runner::{sum, Tally};
 use crate::seen::{Seen, Verdict, PLACES};
 use crate::service::Service::{self, Check, ConflictCounts, Corrections, Find, Fragments, Pack, Snps, Unpack};
@@ -30,7 +30,7 @@ struct Kind {
 const RULES: [usize; 9] = [1, 2, 3, 4, 5, 6, 7, 9, 13];
 const NONE: [usize; 9] = [0; 9];
 
-const KINDS: [Kind; 39] = [
+const KINDS: [Kind; 42] = [
     kind("no records", 3, [3, 0, 0, 0], NONE),
     kind("uniform", 1500, [360, 370, 20, 0], NONE),
     kind("noisy copies", 2000, [500, 490, 7, 0], NONE),
@@ -40,21 +40,23 @@ const KINDS: [Kind; 39] = [
     kind("without calls", 50, [50, 0, 0, 0], NONE),
     kind("deep", 300, [35, 110, 115, 0], NONE),
     kind("up to 12 x 12", 200, [25, 70, 20, 0], NONE),
+    kind("held together", 800, [3, 390, 0, 50], NONE),
     kind("mates, uniform", 4800, [1000, 1350, 30, 4800], NONE),
     kind("mates, noisy copies", 4800, [1400, 950, 30, 4800], NONE),
     kind("mates, cycles", 1500, [170, 570, 0, 1500], NONE),
     kind("mates, deep", 800, [30, 360, 320, 800], NONE),
     kind("mates, 12 x 12", 300, [50, 95, 30, 300], NONE),
-    kind("one fault", 1500, [100, 80, 9, 45], [60, 40, 70, 80, 100, 50, 60, 65, 0]),
-    kind("several faults", 1000, [4, 3, 0, 4], [25, 40, 160, 45, 85, 35, 35, 40, 0]),
-    kind("mates and faults", 800, [30, 20, 0, 50], [5, 4, 85, 30, 85, 35, 40, 35, 0]),
+    kind("one fault", 1500, [100, 80, 9, 45], [60, 40, 70, 80, 100, 45, 54, 65, 0]),
+    kind("several faults", 1000, [4, 3, 0, 4], [25, 35, 160, 45, 73, 35, 32, 40, 0]),
+    kind("mates and faults", 800, [27, 20, 0, 50], [5, 4, 85, 30, 71, 35, 40, 35, 0]),
+    kind("grades over 15", 600, [6, 3, 0, 4], [0, 0, 30, 4, 210, 0, 0, 4, 0]),
     kind("long or ragged", 400, [5, 0, 5, 0], [50, 95, 30, 0, 0, 0, 0, 0, 0]),
-    kind("random fields", 600, [45, 0, 0, 4], [0, 0, 130, 6, 5, 55, 25, 0, 0]),
+    kind("random fields", 600, [45, 0, 0, 4], [0, 0, 115, 5, 9, 55, 25, 0, 0]),
     kind("out of order", 1500, [7, 0, 0, 0], [0, 0, 0, 0, 0, 0, 0, 10, 700]),
-    kind("out of order, faulty", 1500, [0, 0, 0, 0], [0, 5, 115, 45, 120, 55, 50, 140, 185]),
+    kind("out of order, faulty", 1500, [0, 0, 0, 0], [0, 5, 115, 45, 105, 55, 50, 140, 185]),
     kind("shifted", 300, [40, 100, 5, 0], NONE),
     kind("few, long", 200, [4, 90, 0, 0], NONE),
-    kind("many, short", 200, [0, 95, 200, 0], NONE),
+    kind("many, short", 200, [0, 95, 100, 0], NONE),
     kind("medium, heavy noise", 300, [4, 140, 80, 0], NONE),
     kind("medium, shallow", 300, [0, 145, 0, 0], NONE),
     kind("medium, mates", 300, [50, 95, 0, 300], NONE),
@@ -65,6 +67,7 @@ const KINDS: [Kind; 39] = [
     kind("full, blocks", 60, [0, 30, 0, 0], NONE),
     kind("full, 8 and 9 calls", 20, [0, 10, 2, 0], NONE),
     kind("full, heavy noise", 20, [0, 20, 20, 0], NONE),
+    kind("full, graded", 24, [0, 24, 0, 0], NONE),
     kind("full, mates", 40, [4, 5, 40, 40], NONE),
     kind("full, mates shallow", 60, [3, 20, 0, 60], NONE),
     kind("full, mates at depth", 80, [3, 30, 20, 80], NONE),
@@ -79,8 +82,8 @@ const fn kind(name: &'static str, tables: usize, verdicts: [usize; 4], refused: 
 
 /// The calls of each service for each table, right and wrong ones.
 const CALLS: [(Service, usize); 8] = [
-    (Unpack, 16),
-    (Pack, 16),
+    (Unpack, 20),
+    (Pack, 19),
     (Find, 6),
     (Check, 12),
     (ConflictCounts, 12),
@@ -98,33 +101,33 @@ struct Replies {
 }
 
 const REPLIES: [Replies; 8] = [
-    replies(Unpack, &[(Accepted, 41500)], [2900, 1700, 30500, 13500, 1850, 1200, 1000, 0, 1300, 0, 100000, 0, 3400, 0]),
-    replies(Pack, &[(Accepted, 14000)], [113000, 1700, 32000, 300, 0, 1900, 0, 0, 1150, 0, 51000, 0, 1350, 3100]),
+    replies(Unpack, &[(Accepted, 41500)], [3850, 2550, 39500, 13500, 2750, 1200, 1000, 0, 1300, 0, 170000, 0, 3400, 0]),
+    replies(Pack, &[(Accepted, 14000)], [160000, 1700, 32000, 300, 2000, 1850, 0, 0, 1100, 0, 51000, 0, 1300, 2950]),
     replies(Find, &[(Only, 25000), (First, 12000), (Absent, 36000)], [0; 14]),
     replies(
         Check,
         &[(Yes, 19000), (No, 21500)],
-        [2100, 1250, 28500, 13500, 1850, 1150, 1000, 0, 1300, 0, 57000, 0, 3400, 0],
+        [2100, 1250, 28500, 13500, 2650, 1150, 1000, 0, 1300, 0, 57000, 0, 3400, 0],
     ),
     replies(
         ConflictCounts,
         &[(Accepted, 41000)],
-        [2100, 1250, 28500, 13500, 1850, 1150, 1000, 0, 1300, 0, 57000, 0, 3400, 0],
+        [2100, 1250, 28500, 13500, 2650, 1150, 1000, 0, 1300, 0, 57000, 0, 3400, 0],
     ),
     replies(
         Snps,
         &[(Yes, 7500), (No, 7700)],
-        [2700, 1600, 30000, 10500, 1450, 1000, 850, 28500, 970, 40000, 51000, 0, 2400, 0],
+        [2700, 1600, 30000, 10500, 2050, 955, 820, 28500, 970, 40000, 51000, 0, 2400, 0],
     ),
     replies(
         Fragments,
         &[(Yes, 7500), (No, 7700)],
-        [2700, 1600, 30000, 10500, 1450, 1000, 850, 28500, 970, 40000, 51000, 0, 2400, 0],
+        [2700, 1600, 30000, 10500, 2050, 955, 820, 28500, 970, 40000, 51000, 0, 2400, 0],
     ),
     replies(
         Corrections,
         &[(Yes, 18000), (No, 18500)],
-        [3500, 2100, 32000, 13500, 1850, 1150, 1000, 0, 1300, 40000, 97000, 3700, 3400, 0],
+        [3500, 2100, 32000, 13500, 2650, 1150, 1000, 0, 1300, 40000, 97000, 3700, 3400, 0],
     ),
 ];
 
@@ -147,7 +150,7 @@ const CALLED: [(Seen, usize); 13] = [
     (Seen::FoundPastMost, 230),
     (Seen::FoundOutOfOrder, 3400),
     (Seen::TableRoundTrip, 10300),
-    (Seen::CellsRoundTrip, 6800),
+    (Seen::CellsRoundTrip, 6100),
 ];
 
 /// What must have been seen of holes between calls, over all kinds. Of tables by every choice 10,000 are asked for, and not
@@ -162,7 +165,7 @@ const GAPPED: [(Seen, usize); 10] = [
     (Seen::GapBeforeFault(Snps), 6700),
     (Seen::GapBeforeFault(Fragments), 6700),
     (Seen::GappedTableRoundTrip, 6500),
-    (Seen::GappedCellsRoundTrip, 3050),
+    (Seen::GappedCellsRoundTrip, 2650),
 ];
 
 /// What small kinds and full ones must have seen of holes that tells definitions apart.
@@ -193,13 +196,13 @@ struct Order {
 }
 
 const ORDERS: [Order; 7] = [
-    order(Unpack, [2800, 670, 1850, 1600], [1900, 1350, 150, 10], [235, 360, 140, 135, 0, 420]),
-    order(Pack, [900, 465, 740, 390], [800, 400, 160, 4], [30, 0, 200, 0, 0, 80]),
-    order(Check, [2750, 670, 1850, 1600], [1850, 1350, 150, 10], [230, 350, 140, 135, 0, 410]),
-    order(ConflictCounts, [2750, 670, 1850, 1600], [1900, 1350, 150, 10], [230, 350, 140, 135, 0, 410]),
-    order(Snps, [1750, 660, 1350, 2700], [1400, 860, 135, 10], [190, 275, 105, 100, 225, 280]),
-    order(Fragments, [1750, 660, 1350, 2750], [1400, 860, 130, 10], [185, 275, 105, 105, 225, 280]),
-    order(Corrections, [1850, 670, 1850, 1600], [1850, 1350, 150, 10], [230, 350, 145, 135, 0, 410]),
+    order(Unpack, [2800, 640, 1850, 1600], [1850, 1350, 135, 10], [230, 300, 140, 115, 0, 420]),
+    order(Pack, [855, 465, 735, 600], [785, 375, 140, 3], [28, 180, 195, 0, 0, 80]),
+    order(Check, [2750, 625, 1800, 1550], [1800, 1350, 135, 10], [230, 290, 135, 110, 0, 410]),
+    order(ConflictCounts, [2750, 630, 1800, 1600], [1800, 1350, 135, 10], [230, 290, 140, 110, 0, 410]),
+    order(Snps, [1700, 620, 1300, 2700], [1350, 855, 125, 10], [180, 220, 105, 83, 225, 280]),
+    order(Fragments, [1700, 620, 1300, 2700], [1350, 850, 125, 10], [175, 220, 105, 84, 225, 280]),
+    order(Corrections, [1850, 625, 1800, 1600], [1800, 1350, 135, 10], [225, 290, 135, 115, 0, 410]),
 ];
 
 const fn order(service: Service, turns: [usize; 4], places: [usize; 4], faults: [usize; 6]) -> Order {
@@ -211,35 +214,37 @@ const BEFORE_DEPTH: usize = 890;
 
 /// What must have been seen of fragments without calls, over all kinds: pack's refusals 17, by the fragments, by their places and
 /// beside other rules of the same fragment, a later and an earlier one; what pack accepts; and what the other services do.
-const WITHOUT_CALLS: [(Seen, usize); 36] = [
+const WITHOUT_CALLS: [(Seen, usize); 38] = [
     (Seen::Uncalled(Uncalled::First), 370),
     (Seen::Uncalled(Uncalled::Between), 460),
-    (Seen::Uncalled(Uncalled::Last), 260),
+    (Seen::Uncalled(Uncalled::Last), 235),
     (Seen::Uncalled(Uncalled::Several), 375),
     (Seen::Uncalled(Uncalled::All), 265),
     (Seen::Uncalled(Uncalled::NoColumns), 1350),
     (Seen::UncalledFrom(1), 365),
     (Seen::UncalledFrom(3), 405),
-    (Seen::UncalledFrom(30), 155),
+    (Seen::UncalledFrom(30), 130),
     (Seen::UncalledFrom(127), 4),
-    (Seen::UncalledAlone, 1550),
-    (Seen::UncalledBefore(9), 50),
+    (Seen::UncalledAlone, 1400),
+    (Seen::UncalledBefore(9), 41),
     (Seen::UncalledBefore(13), 355),
-    (Seen::UncalledBeforeLater(6), 130),
+    (Seen::UncalledBeforeLater(5), 74),
+    (Seen::UncalledBeforeLater(6), 120),
     (Seen::UncalledBeforeLater(4), 7),
-    (Seen::UncalledBeforeLater(9), 380),
-    (Seen::UncalledBeforeLater(13), 600),
-    (Seen::UnknownUncalled, 345),
-    (Seen::FaultBeforeUncalled(6), 135),
+    (Seen::UncalledBeforeLater(9), 345),
+    (Seen::UncalledBeforeLater(13), 550),
+    (Seen::UnknownUncalled, 330),
+    (Seen::FaultBeforeUncalled(5), 105),
+    (Seen::FaultBeforeUncalled(6), 120),
     (Seen::FaultBeforeUncalled(4), 24),
-    (Seen::FaultBeforeUncalled(9), 100),
-    (Seen::FaultBeforeUncalled(13), 205),
-    (Seen::PackedWithout("two calls"), 4450),
-    (Seen::PackedWithout("an A"), 4550),
-    (Seen::PackedWithout("a B"), 4550),
-    (Seen::PackedWithout("a call after the first column"), 2650),
-    (Seen::PackedWithout("a call before the last column"), 1900),
-    (Seen::PackedWithout("a call below column 64"), 920),
+    (Seen::FaultBeforeUncalled(9), 89),
+    (Seen::FaultBeforeUncalled(13), 185),
+    (Seen::PackedWithout("two calls"), 4100),
+    (Seen::PackedWithout("an A"), 4200),
+    (Seen::PackedWithout("a B"), 4200),
+    (Seen::PackedWithout("a call after the first column"), 2400),
+    (Seen::PackedWithout("a call before the last column"), 1700),
+    (Seen::PackedWithout("a call below column 64"), 825),
     (Seen::UncalledTaken(Unpack), 1250),
     (Seen::UncalledTaken(Check), 1100),
     (Seen::UncalledTaken(ConflictCounts), 1100),
@@ -249,6 +254,134 @@ const WITHOUT_CALLS: [(Seen, usize); 36] = [
     (Seen::FoundUncalled, 1100),
     (Seen::UncalledRoundTrip, 280),
 ];
+
+/// What must have been seen of graded tables, over all kinds: C's answers and what tells weights from the number of calls; round
+/// trips; wrong numbers of grades.
+const GRADED: [(Seen, usize); 18] = [
+    (Seen::Graded, 6900),
+    (Seen::GradedCorrected(Yes), 2850),
+    (Seen::GradedCorrected(No), 3400),
+    (Seen::GradedLarge, 550),
+    (Seen::LargeTotal, 4),
+    (Seen::MoreCalls, 755),
+    (Seen::OtherSides, 860),
+    (Seen::OtherLetters, 650),
+    (Seen::TieOfGrades, 200),
+    (Seen::TieOfNumbers, 240),
+    (Seen::GradedTableRoundTrip, 6700),
+    (Seen::GradedCellsRoundTrip, 3100),
+    (Seen::FoundGraded, 23000),
+    (Seen::FoundOver, 330),
+    (Seen::GradesLong(Unpack), 20000),
+    (Seen::GradesLong(Pack), 21500),
+    (Seen::GradesShort(Unpack), 32500),
+    (Seen::GradesShort(Pack), 18500),
+];
+
+/// Of each grade from 0 on, the least of C's answers that correct a call of it, and of those that depend on its weight.
+const BY_GRADE: [[usize; 2]; 16] = [
+    [1100, 1100],
+    [1100, 1150],
+    [595, 325],
+    [415, 140],
+    [390, 150],
+    [335, 105],
+    [250, 82],
+    [210, 71],
+    [200, 72],
+    [165, 56],
+    [145, 60],
+    [130, 54],
+    [105, 58],
+    [98, 50],
+    [74, 51],
+    [450, 28],
+];
+
+/// The least of C's answers that would be others by other weights.
+const NOT_BY: [(&str, usize); 7] = [
+    ("1 for each grade", 1250),
+    ("0 for grade 0", 1000),
+    ("the grade", 1250),
+    ("the grade and 1", 525),
+    ("the fewest calls among equals", 160),
+    ("of the record before", 1500),
+    ("from the last record on", 1450),
+];
+
+/// Of grades beside the rules, over all kinds, the least of: acceptances of a grade over 0, and of the highest; refusals 5 for the
+/// lowest byte that is no grade, for a grade alone, and for a cell of a record with a grade over 0; and by the rules of records
+/// (`RULES_OF_RECORDS`) refusals of a record with a grade over 15 that breaks another one too, refusals 5 where a later record
+/// breaks one, and refusals by one of a record before the first with such a grade.
+struct Grades {
+    service: Service,
+    alone: [usize; 5],
+    beside: [usize; 8],
+    before: [usize; 8],
+    after: [usize; 8],
+}
+
+const GRADES: [Grades; 7] = [
+    grades(
+        Unpack,
+        [27500, 10000, 480, 800, 470],
+        [195, 73, 65, 70, 0, 81, 99, 0],
+        [160, 21, 32, 23, 0, 93, 31, 0],
+        [260, 66, 61, 63, 0, 51, 20, 0],
+    ),
+    grades(
+        Pack,
+        [3550, 1450, 510, 1000, 0],
+        [24, 0, 190, 0, 0, 100, 115, 325],
+        [0, 0, 60, 0, 0, 50, 45, 32],
+        [5, 0, 53, 0, 0, 38, 47, 100],
+    ),
+    grades(
+        Check,
+        [26500, 9750, 460, 770, 460],
+        [185, 71, 63, 69, 0, 81, 93, 0],
+        [160, 20, 32, 23, 0, 91, 27, 0],
+        [260, 61, 59, 62, 0, 50, 9, 0],
+    ),
+    grades(
+        ConflictCounts,
+        [26500, 9750, 465, 770, 460],
+        [190, 71, 63, 67, 0, 79, 96, 0],
+        [160, 20, 32, 23, 0, 90, 27, 0],
+        [260, 61, 60, 62, 0, 50, 9, 0],
+    ),
+    grades(
+        Snps,
+        [10500, 4400, 345, 430, 385],
+        [135, 50, 46, 43, 120, 44, 60, 0],
+        [100, 8, 9, 5, 82, 55, 9, 0],
+        [220, 43, 51, 50, 550, 44, 5, 0],
+    ),
+    grades(
+        Fragments,
+        [10500, 4400, 350, 430, 385],
+        [135, 50, 47, 43, 120, 44, 60, 0],
+        [100, 8, 9, 5, 82, 55, 9, 0],
+        [225, 43, 50, 51, 545, 43, 5, 0],
+    ),
+    grades(
+        Corrections,
+        [24000, 8750, 465, 770, 460],
+        [190, 70, 64, 69, 0, 80, 93, 0],
+        [160, 21, 32, 22, 0, 91, 27, 0],
+        [260, 61, 59, 62, 0, 49, 9, 0],
+    ),
+];
+
+const fn grades(
+    service: Service,
+    alone: [usize; 5],
+    beside: [usize; 8],
+    before: [usize; 8],
+    after: [usize; 8],
+) -> Grades {
+    Grades { service, alone, beside, before, after }
+}
 
 /// Of each comparison that is not the order of records: the least of the refusals 13 that it misses, and of the acceptances
 /// that it would refuse, of every service on a table, and of pack.
@@ -296,7 +429,8 @@ const SETTLED: [(&str, usize); 11] = [
 ];
 
 /// What the listings must have seen.
-const LISTED: [(Seen, usize); 2] = [(Seen::ListingInPieces, 950), (Seen::GappedListing, 6500)];
+const LISTED: [(Seen, usize); 3] =
+    [(Seen::ListingInPieces, 950), (Seen::GappedListing, 6500), (Seen::GradedListing, 6300)];
 
 #[derive(Clone, Copy, Debug)]
 pub enum Number {
@@ -340,8 +474,9 @@ pub fn demands(with_listing: bool) -> Vec<Demand> {
     let listed = LISTED.into_iter().filter(|_| with_listing);
     let orders = ORDERS.iter().flat_map(Order::leasts).chain([(Seen::OrderBeforeDepth, BEFORE_DEPTH)]);
     let other_orders = OTHER_ORDERS.iter().flat_map(OtherOrder::leasts);
-    let called = CALLED.into_iter().chain(GAPPED).chain(WITHOUT_CALLS);
-    let of_all = returned.chain(called).chain(orders).chain(other_orders).chain(settled).chain(listed);
+    let called = CALLED.into_iter().chain(GAPPED).chain(WITHOUT_CALLS).chain(GRADED);
+    let of_grades = GRADES.iter().flat_map(Grades::leasts).chain(weights());
+    let of_all = returned.chain(called).chain(orders).chain(other_orders).chain(of_grades).chain(settled).chain(listed);
     let never = REPLIES.iter().filter(|replies| replies.service != Find).flat_map(Replies::never);
     of_kinds
         .chain(of_mates)
@@ -398,6 +533,29 @@ impl Order {
         let all = turns.chain(places.into_iter().zip(self.places)).chain(faults.into_iter().zip(self.faults));
         all.filter(|&(_, least)| least > 0).collect()
     }
+}
+
+impl Grades {
+    fn leasts(&self) -> Vec<(Seen, usize)> {
+        let service = self.service;
+        let alone = [Seen::GradeTaken, Seen::HighestTaken, Seen::LowestRefused, Seen::OverAlone, Seen::StrayCellGraded]
+            .map(|of| of(service));
+        let by_rule = |of: fn(Service, usize) -> Seen, leasts: [usize; 8]| {
+            RULES_OF_RECORDS.into_iter().map(move |rule| of(service, rule)).zip(leasts)
+        };
+        let beside = by_rule(Seen::OverBeside, self.beside);
+        let others = by_rule(Seen::OverBeforeLater, self.before).chain(by_rule(Seen::BeforeOver, self.after));
+        let all = alone.into_iter().zip(self.alone).chain(beside).chain(others);
+        all.filter(|&(_, least)| least > 0).collect()
+    }
+}
+
+/// What each grade and all other weights must have shown of C.
+fn weights() -> impl Iterator<Item = (Seen, usize)> {
+    let by_grade = (0..).zip(BY_GRADE).flat_map(|(grade, [corrected, depending])| {
+        [(Seen::CorrectedGrade(grade), corrected), (Seen::DependsOn(grade), depending)]
+    });
+    by_grade.chain(NOT_BY.map(|(name, least)| (Seen::NotBy(name), least)))
 }
 
 impl OtherOrder {

@@ -3,7 +3,7 @@
 use crate::answer::Answers;
 use crate::listing::{self, MOST_BYTES};
 use crate::methods;
-use crate::record::{column_count, Matrix};
+use crate::record::{column_count, grade, whole_records, Matrix};
 use crate::rules::{table_fault, Refusal};
 
 pub enum Outcome {
@@ -13,9 +13,17 @@ pub enum Outcome {
 
 pub struct Accepted {
     pub matrix: Matrix,
+    pub grades: Vec<u8>,
     pub answers: Answers,
     /// the methods that gave the answers
     pub by: Vec<&'static str>,
+}
+
+impl Accepted {
+    /// Has a fragment a grade over 0?
+    pub fn is_graded(&self) -> bool {
+        self.grades.iter().any(|&grade| grade > 0)
+    }
 }
 
 /// The outcome for the bytes that the listing reads of a table. Fails if two methods differ, or if none settles it.
@@ -27,7 +35,8 @@ pub fn outcome(table: &[u8]) -> Result<Outcome, String> {
     }
     let matrix = Matrix::read(input, n);
     let (answers, by) = methods::answers(&matrix)?;
-    Ok(Outcome::Accepted(Box::new(Accepted { matrix, answers, by })))
+    let grades = whole_records(input).map(grade).collect();
+    Ok(Outcome::Accepted(Box::new(Accepted { matrix, grades, answers, by })))
 }
 
 /// The listing of an outcome.

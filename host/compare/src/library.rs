@@ -2,6 +2,7 @@
 
 use crate::guarded::{Guarded, Room};
 use crate::record::Matrix;
+use crate::rules::Given;
 use crate::service::{Buffer, Service};
 use haplotypes::Outcome;
 use std::ops::Range;
@@ -12,6 +13,7 @@ pub struct Buffers {
     pub table: Guarded<u8>,
     pub cells: Guarded<u8>,
     pub tags: Guarded<u32>,
+    pub grades: Guarded<u8>,
     pub work: Guarded<u16>,
     pub answer: Guarded<u8>,
     pub corrected: Guarded<u8>,
@@ -38,11 +40,11 @@ pub type Library<'a> = &'a (dyn Fn(&mut Call) -> Returned + Sync);
 /// The library that is linked.
 pub fn proved(call: &mut Call) -> Returned {
     let n = call.number;
-    let Buffers { table, cells, tags, work, answer, corrected, counts } = &mut call.lent;
+    let Buffers { table, cells, tags, grades, work, answer, corrected, counts } = &mut call.lent;
     Returned::Outcome(match call.service {
         Service::Find => return Returned::Part(found(n as u32, table.lent())),
-        Service::Unpack => haplotypes::unpack(n, table.lent(), cells.lent_mut(), tags.lent_mut()),
-        Service::Pack => haplotypes::pack(n, cells.lent(), tags.lent(), table.lent_mut()),
+        Service::Unpack => haplotypes::unpack(n, table.lent(), cells.lent_mut(), tags.lent_mut(), grades.lent_mut()),
+        Service::Pack => haplotypes::pack(n, cells.lent(), tags.lent(), grades.lent(), table.lent_mut()),
         Service::Check => haplotypes::check(n, table.lent(), answer.lent_mut()),
         Service::ConflictCounts => haplotypes::conflict_counts(n, table.lent(), counts.lent_mut()),
         Service::Snps => haplotypes::least_snp_removal(n, table.lent(), work.lent_mut(), answer.lent_mut()),
@@ -67,6 +69,7 @@ impl Buffers {
             (Buffer::Table, self.table.difference(&found.table)),
             (Buffer::Cells, self.cells.difference(&found.cells)),
             (Buffer::Tags, self.tags.difference(&found.tags)),
+            (Buffer::Grades, self.grades.difference(&found.grades)),
             (Buffer::Work, self.work.difference(&found.work)),
             (Buffer::Answer, self.answer.difference(&found.answer)),
             (Buffer::Corrected, self.corrected.difference(&found.corrected)),
@@ -82,6 +85,7 @@ impl Buffers {
             Buffer::Table => &self.table,
             Buffer::Cells => &self.cells,
             Buffer::Tags => &self.tags,
+            Buffer::Grades => &self.grades,
             Buffer::Work => &self.work,
             Buffer::Answer => &self.answer,
             Buffer::Corrected => &self.corrected,
@@ -94,6 +98,7 @@ impl Buffers {
             Buffer::Table => &mut self.table,
             Buffer::Cells => &mut self.cells,
             Buffer::Tags => &mut self.tags,
+            Buffer::Grades => &mut self.grades,
             Buffer::Work => &mut self.work,
             Buffer::Answer => &mut self.answer,
             Buffer::Corrected => &mut self.corrected,
@@ -108,6 +113,12 @@ impl Buffers {
 }
 
 impl Call {
+    /// What pack is given.
+    pub fn given(&self) -> Given<'_> {
+        let Buffers { cells, tags, grades, .. } = &self.lent;
+        Given { n: self.number, cells: cells.lent(), tags: tags.lent(), grades: grades.lent() }
+    }
+
     /// The cells that pack is given, or those of an accepted table.
     pub fn matrix(&self) -> Matrix {
         match self.service {

@@ -15,6 +15,7 @@ mod exact;
 mod expected;
 mod gaps;
 mod generate;
+mod grades;
 mod guarded;
 mod library;
 mod listing;

@@ -49,10 +49,9 @@ pub fn falls(keys: &[Key]) -> impl Iterator<Item = usize> + '_ {
 
 /// The first fault of a call's records or fragments, if their order were free.
 pub fn other_fault(call: &Call) -> Option<Refusal> {
-    let lent = &call.lent;
     match call.service {
-        Service::Pack => pack_fault_without(13, call.number, lent.cells.lent(), lent.tags.lent()),
-        service => fault_in_any_order(service, call.number, lent.table.lent()),
+        Service::Pack => pack_fault_without(13, call.given()),
+        service => fault_in_any_order(service, call.number, call.lent.table.lent()),
     }
 }
 

@@ -1,5 +1,6 @@
 //! The 32-byte record: its fields, its cells, and the order and the matrix of a table.
 
+use crate::grades::weight;
 use std::ops::Range;
 
 pub const RECORD: usize = 32;
@@ -20,6 +21,10 @@ pub fn start(record: &[u8]) -> usize {
 
 pub fn span(record: &[u8]) -> usize {
     record[6] as usize
+}
+
+pub fn grade(record: &[u8]) -> u8 {
+    record[7]
 }
 
 /// What records stand in order by: the start, and at one start the tag.
@@ -45,7 +50,7 @@ pub fn set_start(record: &mut [u8], start: u16) {
     record[4..6].copy_from_slice(&start.to_le_bytes());
 }
 
-/// The record of a fragment with these cells from column `start` on.
+/// The record of a fragment with these cells from column `start` on, of grade 0.
 pub fn record(tag: u32, start: usize, cells: &[u8]) -> [u8; RECORD] {
     let mut record = [0; RECORD];
     set_tag(&mut record, tag);
@@ -54,6 +59,11 @@ pub fn record(tag: u32, start: usize, cells: &[u8]) -> [u8; RECORD] {
     for (i, &code) in cells.iter().enumerate() {
         set_cell(&mut record, i, code);
     }
+    record
+}
+
+pub fn graded(mut record: [u8; RECORD], grade: u8) -> [u8; RECORD] {
+    record[7] = grade;
     record
 }
 
@@ -85,9 +95,9 @@ pub fn in_order(table: &[u8]) -> Vec<u8> {
 }
 
 /// The table of these rows.
-pub fn packed(rows: &[Vec<u8>], tags: &[u32]) -> Vec<u8> {
-    let packed = |(row, &tag): (&Vec<u8>, &u32)| record(tag, stretch(row).start, &row[stretch(row)]);
-    rows.iter().zip(tags).flat_map(packed).collect()
+pub fn packed(rows: &[Vec<u8>], tags: &[u32], grades: &[u8]) -> Vec<u8> {
+    let bare = rows.iter().zip(tags).map(|(row, &tag)| record(tag, stretch(row).start, &row[stretch(row)]));
+    bare.zip(grades).flat_map(|(record, &grade)| graded(record, grade)).collect()
 }
 
 /// The position of the first whole record without calls.
@@ -110,16 +120,25 @@ pub fn column_count(table: &[u8]) -> usize {
 pub struct Matrix {
     pub n: usize,
     pub rows: Vec<Vec<u8>>,
+    /// what a correction in each fragment costs
+    pub weights: Vec<usize>,
 }
 
 impl Matrix {
     pub fn read(table: &[u8], n: usize) -> Matrix {
-        Matrix { n, rows: whole_records(table).map(|r| row(r, n)).collect() }
+        let rows = whole_records(table).map(|r| row(r, n)).collect();
+        Matrix { n, rows, weights: whole_records(table).map(|r| weight(grade(r))).collect() }
     }
 
-    /// The rows of m × n cells.
+    /// The rows of fragments of grade 0.
+    pub fn ungraded(n: usize, rows: Vec<Vec<u8>>) -> Matrix {
+        let weights = vec![weight(0); rows.len()];
+        Matrix { n, rows, weights }
+    }
+
+    /// The rows of m × n cells; pack has no use for weights.
     pub fn of_cells(n: usize, m: usize, cells: &[u8]) -> Matrix {
-        Matrix { n, rows: (0..m).map(|f| cells[n * f..n * (f + 1)].to_vec()).collect() }
+        Matrix::ungraded(n, (0..m).map(|f| cells[n * f..n * (f + 1)].to_vec()).collect())
     }
 
     pub fn m(&self) -> usize {

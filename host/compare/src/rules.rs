@@ -1,8 +1,10 @@
-//! The refusals of paper 01, with the mate pairs of paper 02's T-01, the order of records of its T-02 and its fragments without
-//! calls, straight from the bytes and in the order in which they are tested.
+//! The refusals of paper 01, with the mate pairs of paper 02's T-01, the order of records of its T-02, its fragments without
+//! calls and its grades, straight from the bytes and in the order in which they are tested.
 
+use crate::grades::MOST_GRADE;
 use crate::record::{
-    cell, has_call, is_gapped, order, span, start, stretch, tag, whole_records, Matrix, A, B, CELLS, HOLE, RECORD,
+    cell, grade, has_call, is_gapped, order, span, start, stretch, tag, whole_records, Matrix, A, B, CELLS, HOLE,
+    RECORD,
 };
 use crate::service::{Buffer, Service};
 
@@ -14,6 +16,9 @@ pub const LEAST_WORK: usize = 32768;
 
 /// The numbers of all refusals.
 pub const REFUSALS: [usize; 14] = [1, 2, 3, 4, 5, 6, 7, 8, 9, 10, 11, 12, 13, 17];
+
+/// The rules of a record, and of pack's fragments.
+pub const RULES_OF_RECORDS: [usize; 8] = [4, 5, 6, 7, 8, 9, 13, 17];
 
 #[derive(Clone, Copy, PartialEq, Eq, Debug)]
 pub struct Refusal {
@@ -33,13 +38,23 @@ pub fn call_fault(service: Service, n: usize, table: &[u8], lent: &[(Buffer, usi
     size_fault(n, table).or_else(|| lent_fault(n, m, lent)).or_else(|| records_fault(service, n, table))
 }
 
-/// The first fault of a call of pack: 3, 1, 2, 11, and then the fragments by 6, 17, 4, 9, 13.
-pub fn pack_fault(n: usize, cells: &[u8], tags: &[u32], table_length: usize) -> Option<Refusal> {
+/// The fragments that pack is given: m × n cells, by fragment and then column, m tags and m grades.
+#[derive(Clone, Copy)]
+pub struct Given<'a> {
+    pub n: usize,
+    pub cells: &'a [u8],
+    pub tags: &'a [u32],
+    pub grades: &'a [u8],
+}
+
+/// The first fault of a call of pack: 3, 1, 2, 11, and then the fragments by 5, 6, 17, 4, 9, 13.
+pub fn pack_fault(given: Given, table_length: usize) -> Option<Refusal> {
+    let Given { n, cells, tags, grades } = given;
     let m = tags.len();
     first_broken(&[(3, n > MOST_COLUMNS)])
-        .or_else(|| first_broken(&[(1, cells.len() != m * n), (2, m > MOST_FRAGMENTS)]))
+        .or_else(|| first_broken(&[(1, cells.len() != m * n || grades.len() != m), (2, m > MOST_FRAGMENTS)]))
         .or_else(|| lent_fault(n, m, &[(Buffer::Table, table_length)]))
-        .or_else(|| fragments_fault(n, cells, tags, |_| true))
+        .or_else(|| fragments_fault(given, |_| true))
 }
 
 /// The first fault of a table's records by the rules but 13: what a service would say if their order were free.
@@ -48,9 +63,16 @@ pub fn fault_in_any_order(service: Service, n: usize, table: &[u8]) -> Option<Re
     first_of_places(records.len(), |place| record_fault(service, n, &records, place))
 }
 
+/// The first fault of a table's records if any byte were a grade.
+pub fn fault_of_any_grade(service: Service, n: usize, table: &[u8]) -> Option<Refusal> {
+    let mut ungraded = table.to_vec();
+    ungraded.chunks_exact_mut(RECORD).for_each(|record| record[7] = 0);
+    records_fault(service, n, &ungraded)
+}
+
 /// The first fault of pack's fragments by the rules but one: what pack would say without it.
-pub fn pack_fault_without(rule: usize, n: usize, cells: &[u8], tags: &[u32]) -> Option<Refusal> {
-    fragments_fault(n, cells, tags, |number| number != rule)
+pub fn pack_fault_without(rule: usize, given: Given) -> Option<Refusal> {
+    fragments_fault(given, |number| number != rule)
 }
 
 /// S's and F's own fault in a table that check takes: the first fragment with a hole between two calls.
@@ -82,16 +104,17 @@ fn first_broken(rules: &[(usize, bool)]) -> Option<Refusal> {
 }
 
 /// The first fault of pack's fragments by the rules that are tested.
-fn fragments_fault(n: usize, cells: &[u8], tags: &[u32], is_tested: impl Fn(usize) -> bool) -> Option<Refusal> {
-    let rows = Matrix::of_cells(n, tags.len(), cells).rows;
-    first_of_places(rows.len(), |place| fragment_faults(&rows, tags, place).find(|&number| is_tested(number)))
+fn fragments_fault(given: Given, is_tested: impl Fn(usize) -> bool) -> Option<Refusal> {
+    let rows = Matrix::of_cells(given.n, given.tags.len(), given.cells).rows;
+    first_of_places(rows.len(), |place| fragment_faults(given, &rows, place).find(|&number| is_tested(number)))
 }
 
 /// The rules that a fragment given to pack breaks, in the order in which they are tested.
-fn fragment_faults(rows: &[Vec<u8>], tags: &[u32], place: usize) -> impl Iterator<Item = usize> {
-    let row = &rows[place];
+fn fragment_faults(given: Given, rows: &[Vec<u8>], place: usize) -> impl Iterator<Item = usize> {
+    let (row, tags) = (&rows[place], given.tags);
     let order = |place: usize| (stretch(&rows[place]).start, tags[place]);
     let rules = [
+        (5, given.grades[place] > MOST_GRADE),
         (6, row.iter().any(|&code| code > B)),
         (17, !has_call(row)),
         (4, stretch(row).len() > CELLS),
@@ -140,7 +163,7 @@ fn out_of_frame(n: usize, record: &[u8]) -> bool {
 }
 
 fn stray_bits(record: &[u8]) -> bool {
-    record[7] != 0 || (span(record)..CELLS).any(|i| cell(record, i) != 0)
+    grade(record) > MOST_GRADE || (span(record)..CELLS).any(|i| cell(record, i) != 0)
 }
 
 fn open_end(record: &[u8]) -> bool {

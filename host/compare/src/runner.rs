@@ -2,15 +2,17 @@
 
 use crate::compare;
 use crate::generate::{kinds, Kind};
+use crate::grades::{self, MOST_GRADE};
 use crate::listing::{hexadecimal, rows, MOST_BYTES};
 use crate::methods::{self, CHECK};
 use crate::order::OTHERS;
 use crate::record::{column_count, Matrix};
 use crate::rng::Rng;
-use crate::rules::table_fault;
+use crate::rules::{table_fault, RULES_OF_RECORDS};
 use crate::seen::{Counts, Seen, Verdict, PLACES};
 use crate::service::Service;
 use crate::uncalled::{self, Uncalled};
+use std::fmt::Display;
 use std::path::Path;
 use std::sync::atomic::{AtomicBool, AtomicUsize, Ordering};
 use std::sync::Mutex;
@@ -142,6 +144,7 @@ fn print_tallies(tallies: &[Tally]) {
     print_gapped(&all.counts);
     print_order(&all.counts);
     print_uncalled(&all.counts);
+    print_grades(&all.counts);
     let settled = methods::names().into_iter().map(|name| format!("{name} {}", all.counts.of(Seen::By(name))));
     println!("settled: {}", settled.collect::<Vec<_>>().join(", "));
 }
@@ -178,12 +181,9 @@ fn print_order(counts: &Counts) {
             ("after a fault", Seen::FaultBeforeOrder(service)),
         ];
         let turns = named.map(|(name, seen)| format!("{name} {}", counts.of(seen))).join(", ");
-        let places =
-            PLACES.map(|place| format!("{place}:{}", counts.of(Seen::OutOfOrderFrom(service, place)))).join(" ");
-        let faults = (4..=9).map(|rule| (rule, counts.of(Seen::FaultOutOfOrder(service, rule))));
-        let faults: Vec<String> =
-            faults.filter(|&(_, count)| count > 0).map(|(rule, count)| format!("{rule}:{count}")).collect();
-        println!("{} and order: {turns}; from place {places}; refused by rule {}", service.name(), faults.join(" "));
+        let places = numbered(counts, PLACES, |place| Seen::OutOfOrderFrom(service, place));
+        let faults = numbered(counts, RULES_OF_RECORDS, |rule| Seen::FaultOutOfOrder(service, rule));
+        println!("{} and order: {turns}; from place {places}; refused by rule {faults}", service.name());
     }
     println!("C's 13 where a column is too deep: calls {}", counts.of(Seen::OrderBeforeDepth));
     for other in &OTHERS {
@@ -199,16 +199,14 @@ fn print_order(counts: &Counts) {
 
 /// What was seen of fragments without calls.
 fn print_uncalled(counts: &Counts) {
-    let numbered = |of: fn(usize) -> Seen, numbers: &[usize]| {
-        numbers.iter().map(|&number| format!("{number}:{}", counts.of(of(number)))).collect::<Vec<_>>().join(" ")
-    };
     let which =
         Uncalled::ALL.map(|uncalled| format!("{uncalled:?} {}", counts.of(Seen::Uncalled(uncalled)))).join(", ");
-    println!("pack refuses by 17: {which}; from place {}", numbered(Seen::UncalledFrom, &PLACES));
+    println!("pack refuses by 17: {which}; from place {}", numbered(counts, PLACES, Seen::UncalledFrom));
     let [alone, unknown] = [Seen::UncalledAlone, Seen::UnknownUncalled].map(|seen| counts.of(seen));
-    let (same, later) = (numbered(Seen::UncalledBefore, &[9, 13]), numbered(Seen::UncalledBeforeLater, &[6, 4, 9, 13]));
+    let rules = |of: fn(usize) -> Seen| numbered(counts, RULES_OF_RECORDS, of);
+    let (same, later) = (rules(Seen::UncalledBefore), rules(Seen::UncalledBeforeLater));
     println!("17 alone {alone}, before a rule of the same fragment {same}, of a later one {later}");
-    let earlier = numbered(Seen::FaultBeforeUncalled, &[6, 4, 9, 13]);
+    let earlier = rules(Seen::FaultBeforeUncalled);
     println!("17 after 6 of the same fragment {unknown}, after a rule of an earlier one {earlier}");
     let packed = uncalled::OTHERS.each_ref().map(|other| (other.name, counts.of(Seen::PackedWithout(other.name))));
     println!("pack takes a fragment without {}", packed.map(|(name, count)| format!("{name} {count}")).join(", "));
@@ -216,6 +214,62 @@ fn print_uncalled(counts: &Counts) {
         Service::ON_TABLES.map(|service| format!("{} {}", service.name(), counts.of(Seen::UncalledTaken(service))));
     let [found, unpacked] = [Seen::FoundUncalled, Seen::UncalledRoundTrip].map(|seen| counts.of(seen));
     println!("records without calls: {}, find {found}; unpacked and refused by pack {unpacked}", taken.join(", "));
+}
+
+/// What was seen of grades.
+fn print_grades(counts: &Counts) {
+    let named = [
+        ("tables", Seen::Graded),
+        ("listings with C's answer", Seen::GradedListing),
+        ("C corrects nothing", Seen::GradedCorrected(Verdict::Yes)),
+        ("C corrects", Seen::GradedCorrected(Verdict::No)),
+        ("C without every choice", Seen::GradedLarge),
+        ("more calls than the fewest", Seen::MoreCalls),
+        ("other sides", Seen::OtherSides),
+        ("other letters", Seen::OtherLetters),
+        ("equal weights of other grades", Seen::TieOfGrades),
+        ("of another number of calls", Seen::TieOfNumbers),
+        ("a total over half of the largest", Seen::LargeTotal),
+        ("round trips of tables", Seen::GradedTableRoundTrip),
+        ("of cells", Seen::GradedCellsRoundTrip),
+        ("found", Seen::FoundGraded),
+        ("found over 15", Seen::FoundOver),
+    ];
+    println!("graded: {}", named.map(|(name, seen)| format!("{name} {}", counts.of(seen))).join("; "));
+    let by_grade = |of: fn(u8) -> Seen| numbered(counts, 0..=MOST_GRADE, of);
+    println!("C corrects a call of grade {}", by_grade(Seen::CorrectedGrade));
+    println!("C corrects something else if a grade weighs 1 more or less: {}", by_grade(Seen::DependsOn));
+    let others =
+        grades::OTHERS.each_ref().map(|other| format!("{} {}", other.name, counts.of(Seen::NotBy(other.name))));
+    println!("C corrects something else by other weights: {}", others.join(", "));
+    for service in Service::ALL.into_iter().filter(|&service| service != Service::Find) {
+        let named = [
+            ("taken", Seen::GradeTaken(service)),
+            ("15 taken", Seen::HighestTaken(service)),
+            ("16 refused", Seen::LowestRefused(service)),
+            ("refused alone", Seen::OverAlone(service)),
+            ("a cell after the span beside a grade", Seen::StrayCellGraded(service)),
+            ("too many", Seen::GradesLong(service)),
+            ("too few", Seen::GradesShort(service)),
+        ];
+        let shown = named.map(|(name, seen)| format!("{name} {}", counts.of(seen))).join(", ");
+        let of = |of: fn(Service, usize) -> Seen| numbered(counts, RULES_OF_RECORDS, |rule| of(service, rule));
+        let (same, later, earlier) = (of(Seen::OverBeside), of(Seen::OverBeforeLater), of(Seen::BeforeOver));
+        println!(
+            "{} and grades: {shown}; over 15 beside rule {same}, before a later {later}, after an earlier {earlier}",
+            service.name()
+        );
+    }
+}
+
+/// How often each of some numbers was seen, where it was, as number:times.
+fn numbered<T: Copy + Display>(
+    counts: &Counts,
+    numbers: impl IntoIterator<Item = T>,
+    of: impl Fn(T) -> Seen,
+) -> String {
+    let all = numbers.into_iter().map(|number| (number, counts.of(of(number)))).filter(|&(_, count)| count > 0);
+    all.map(|(number, count)| format!("{number}:{count}")).collect::<Vec<_>>().join(" ")
 }
 
 /// What the calls of a service returned, and how often.

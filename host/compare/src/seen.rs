@@ -1,13 +1,17 @@
 //! What a run has seen, counted.
 
+use crate::answer::Answer;
 use crate::counts;
 use crate::expected::{Accepted, Outcome};
 use crate::gaps;
+use crate::grades::{
+    corrected_calls, corrected_otherwise, fewest_corrections, ties, weights_but, LARGEST_TOTAL, OTHERS,
+};
 use crate::methods::{CHECK, CORRECTIONS};
 use crate::rules::REFUSALS;
 use crate::service::Service;
 use crate::uncalled::Uncalled;
-use std::collections::BTreeMap;
+use std::collections::{BTreeMap, BTreeSet};
 
 /// Refusals 13 and 17 are counted by their places: from each of these on, up to the next. The last is the last of a full table.
 pub const PLACES: [usize; 4] = [1, 3, 30, 127];
@@ -52,10 +56,36 @@ pub enum Seen {
     RemovedApart,
     /// an answer of C with two fragments in two blocks that conflicted before correction
     CorrectedApart,
+    /// a graded table: a grade over 0
+    Graded,
+    /// C's answer to a graded table
+    GradedCorrected(Verdict),
+    /// C's answer to a graded table that is too large for every choice
+    GradedLarge,
+    /// an answer of C that corrects more calls than the fewest
+    MoreCalls,
+    /// an answer of C with other sides than the fewest corrections
+    OtherSides,
+    /// an answer of C with the sides of the fewest corrections, and with other letters
+    OtherLetters,
+    /// an answer of C with a column and side where A and B weigh the same, with as many calls of other grades
+    TieOfGrades,
+    /// the same, with another number of calls
+    TieOfNumbers,
+    /// an answer of C that corrects a call of this grade
+    CorrectedGrade(u8),
+    /// an answer of C to a small table that would be another if this grade weighed 1 more, or 1 less
+    DependsOn(u8),
+    /// an answer of C to a small table that would be another by other weights, by their name
+    NotBy(&'static str),
+    /// a total of C over half of the largest that there can be
+    LargeTotal,
     /// a method that settled a service
     By(&'static str),
     Listing,
     ListingInPieces,
+    /// a listing of a graded table with an answer of C
+    GradedListing,
     /// a listing with refusal 8 in the lines of S and F
     GappedListing,
     Call(Service),
@@ -100,6 +130,25 @@ pub enum Seen {
     PackedWithout(&'static str),
     /// an acceptance of a table with a record without calls
     UncalledTaken(Service),
+    /// an acceptance of a grade over 0
+    GradeTaken(Service),
+    /// an acceptance of the highest grade
+    HighestTaken(Service),
+    /// a refusal 5 for the lowest byte that is no grade
+    LowestRefused(Service),
+    /// a refusal 5 for a grade where no other rule is broken, nor this one by a cell
+    OverAlone(Service),
+    /// a refusal of a record with a grade over 15 that breaks this rule too, 5 by a cell; by 5, or by 4 where that comes first
+    OverBeside(Service, usize),
+    /// a refusal 5 for a grade where a later record breaks this rule
+    OverBeforeLater(Service, usize),
+    /// a refusal by this rule of a record before the first with a grade over 15
+    BeforeOver(Service, usize),
+    /// a refusal 5 for a cell of a record with a grade over 0
+    StrayCellGraded(Service),
+    /// a refusal for too many grades alone, and for too few
+    GradesLong(Service),
+    GradesShort(Service),
     /// an acceptance with more work than the least
     LongWork(Service),
     /// a record that find hands back of a table with a part of a record at its end
@@ -110,6 +159,9 @@ pub enum Seen {
     FoundOutOfOrder,
     /// a record without calls that find hands back
     FoundUncalled,
+    /// a record with a grade over 0 that find hands back, and with one over 15
+    FoundGraded,
+    FoundOver,
     /// a table unpacked and packed again
     TableRoundTrip,
     /// a table with a record without calls unpacked, and refused by pack
@@ -119,6 +171,9 @@ pub enum Seen {
     /// the same with holes between calls
     GappedTableRoundTrip,
     GappedCellsRoundTrip,
+    /// the same with a grade over 0
+    GradedTableRoundTrip,
+    GradedCellsRoundTrip,
 }
 
 #[derive(Clone, Copy, PartialEq, Eq, PartialOrd, Ord, Debug)]
@@ -166,6 +221,9 @@ impl Counts {
             if table.matrix.is_gapped() {
                 self.add_gapped(table);
             }
+            if table.is_graded() {
+                self.add_graded(table);
+            }
             table.by.iter().for_each(|name| self.add(Seen::By(name), 1));
         }
     }
@@ -198,7 +256,7 @@ impl Counts {
     }
 
     /// Of a table with holes between calls.
-    fn add_gapped(&mut self, Accepted { matrix, answers, by }: &Accepted) {
+    fn add_gapped(&mut self, Accepted { matrix, answers, by, .. }: &Accepted) {
         self.add(Seen::Gapped, 1);
         self.add_if(Seen::BeyondPairs, answers.check.is_none() && gaps::error_free_by_pairs(matrix));
         self.add_if(Seen::CoversUncalled, gaps::covers_uncalled(matrix));
@@ -208,6 +266,52 @@ impl Counts {
             let every_choice = [CHECK[0].name, CORRECTIONS[0].name].iter().all(|name| by.contains(name));
             self.add(Seen::GappedCorrected(verdict), 1);
             self.add(if every_choice { Seen::GappedByEveryChoice } else { Seen::GappedLarge }, 1);
+        }
+    }
+
+    /// Of a table with a grade over 0.
+    fn add_graded(&mut self, table: &Accepted) {
+        self.add(Seen::Graded, 1);
+        let Ok(corrections) = &table.answers.corrections else {
+            return;
+        };
+        let is_small = table.by.contains(&CORRECTIONS[0].name);
+        let verdict = if corrections.count == 0 { Verdict::Yes } else { Verdict::No };
+        self.add(Seen::GradedCorrected(verdict), 1);
+        self.add_if(Seen::GradedLarge, !is_small);
+        self.add_if(Seen::LargeTotal, corrections.count > LARGEST_TOTAL / 2);
+        if corrections.count > 0 {
+            self.add_corrected(table, corrections);
+            if is_small {
+                self.add_other_weights(table, corrections);
+            }
+        }
+    }
+
+    /// Of what C corrects in a graded table.
+    fn add_corrected(&mut self, Accepted { matrix, grades, .. }: &Accepted, corrections: &Answer) {
+        let calls = corrected_calls(matrix, corrections);
+        let fewest = fewest_corrections(matrix);
+        let same_sides = fewest.sides == corrections.sides;
+        self.add_if(Seen::MoreCalls, calls.iter().sum::<usize>() > fewest.count);
+        self.add_if(Seen::OtherSides, !same_sides);
+        self.add_if(Seen::OtherLetters, same_sides && fewest.haplotypes != corrections.haplotypes);
+        let ties = ties(matrix, grades, &corrections.sides);
+        self.add_if(Seen::TieOfGrades, ties.iter().any(|[a, b]| a.len() == b.len() && a != b));
+        self.add_if(Seen::TieOfNumbers, ties.iter().any(|[a, b]| a.len() != b.len()));
+        let corrected: BTreeSet<u8> = (0..grades.len()).filter(|&f| calls[f] > 0).map(|f| grades[f]).collect();
+        corrected.into_iter().for_each(|grade| self.add(Seen::CorrectedGrade(grade), 1));
+    }
+
+    fn add_other_weights(&mut self, Accepted { matrix, grades, .. }: &Accepted, corrections: &Answer) {
+        let differs = |weights: Vec<usize>| corrected_otherwise(matrix, weights, corrections);
+        for other in &OTHERS {
+            self.add_if(Seen::NotBy(other.name), differs(other.weights(grades)));
+        }
+        let distinct: BTreeSet<u8> = grades.iter().copied().collect();
+        for grade in distinct {
+            let depends = [-1, 1].into_iter().any(|more| differs(weights_but(grades, grade, more)));
+            self.add_if(Seen::DependsOn(grade), depends);
         }
     }
 

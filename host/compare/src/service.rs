@@ -2,7 +2,7 @@
 
 use crate::record::RECORD;
 use crate::rules::LEAST_WORK;
-use Buffer::{Answer, Cells, Corrected, Counts, Table, Tags, Work};
+use Buffer::{Answer, Cells, Corrected, Counts, Grades, Table, Tags, Work};
 
 #[derive(Clone, Copy, PartialEq, Eq, PartialOrd, Ord, Debug)]
 pub enum Service {
@@ -21,6 +21,7 @@ pub enum Buffer {
     Table,
     Cells,
     Tags,
+    Grades,
     Work,
     Answer,
     Corrected,
@@ -64,7 +65,7 @@ impl Service {
 
     pub fn reads(self) -> &'static [Buffer] {
         match self {
-            Service::Pack => &[Cells, Tags],
+            Service::Pack => &[Cells, Tags, Grades],
             _ => &[Table],
         }
     }
@@ -72,7 +73,7 @@ impl Service {
     /// What it fills where it accepts. Each must have its exact length.
     pub fn fills(self) -> &'static [Buffer] {
         match self {
-            Service::Unpack => &[Cells, Tags],
+            Service::Unpack => &[Cells, Tags, Grades],
             Service::Pack => &[Table],
             Service::Find => &[],
             Service::ConflictCounts => &[Counts],
@@ -98,14 +99,15 @@ impl Service {
 }
 
 impl Buffer {
-    pub const COUNT: usize = 7;
-    pub const ALL: [Buffer; Buffer::COUNT] = [Table, Cells, Tags, Work, Answer, Corrected, Counts];
+    pub const COUNT: usize = 8;
+    pub const ALL: [Buffer; Buffer::COUNT] = [Table, Cells, Tags, Grades, Work, Answer, Corrected, Counts];
 
     pub fn name(self) -> &'static str {
         match self {
             Table => "table",
             Cells => "cells",
             Tags => "tags",
+            Grades => "grades",
             Work => "work",
             Answer => "answer",
             Corrected => "corrected table",
@@ -118,7 +120,7 @@ impl Buffer {
         match self {
             Table | Corrected => RECORD * m,
             Cells => m * n,
-            Tags => m,
+            Tags | Grades => m,
             Work => LEAST_WORK,
             Answer => 3 * n + 2 * m,
             Counts => m * m,

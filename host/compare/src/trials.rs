@@ -1,18 +1,17 @@
 //! Paper 01's trials, for every method, with the mate pairs of paper 02's T-01, the order of records of its T-02, its fragments
-//! without calls, and the counts of conflicts.
+//! without calls, its grades (`grades`), and the counts of conflicts.
+
+mod grades;
 
 use crate::answer::Answers;
 use crate::counts::{across_64, conflict_counts, conflicting_apart, over_64, sharing_apart};
 use crate::coverage::{demands, OtherOrder, OTHER_ORDERS};
 use crate::order::{falls, keys_of_cells, keys_of_table, Other, OTHERS};
 use crate::record::{
-    column_count, first_without_calls, has_call, in_order, places_of, record, stretch, Matrix, RECORD,
+    column_count, first_without_calls, graded, has_call, in_order, places_of, record, stretch, Matrix, RECORD,
 };
 use crate::rng::Rng;
-use crate::rules::{
-    call_fault, fault_in_any_order, gapped, pack_fault, pack_fault_without, table_fault, too_deep, Refusal,
-    MOST_FRAGMENTS,
-};
+use crate::rules::{call_fault, fault_in_any_order, gapped, table_fault, too_deep, Given, Refusal, MOST_FRAGMENTS};
 use crate::seen::Seen;
 use crate::self_test::{
     gapped_triangle, printed_table, stored_table, unordered_triangle, PRINTED_LISTING, STORED_LISTING,
@@ -21,7 +20,7 @@ use crate::self_test::{
 use crate::service::Buffer::{Answer, Corrected, Counts, Work};
 use crate::service::Service::{self, Check, ConflictCounts, Corrections, Fragments, Pack, Snps, Unpack};
 use crate::uncalled::{self, Uncalled};
-use crate::{brute, expected, gaps, generate, listing, methods};
+use crate::{brute, expected, gaps, generate, listing, methods, rules};
 
 /// A table of fragments as the paper writes them, one letter to a column.
 fn table(fragments: &[&str]) -> Vec<u8> {
@@ -61,6 +60,15 @@ const TAKING_HOLES: [Service; 4] = [Unpack, Check, ConflictCounts, Corrections];
 
 fn refusal(number: usize, place: usize) -> Option<Refusal> {
     Some(Refusal { number, place })
+}
+
+/// The fault of fragments of grade 0 given to pack.
+fn pack_fault(n: usize, cells: &[u8], tags: &[u32], table_length: usize) -> Option<Refusal> {
+    rules::pack_fault(Given { n, cells, tags, grades: &vec![0; tags.len()] }, table_length)
+}
+
+fn pack_fault_without(rule: usize, n: usize, cells: &[u8], tags: &[u32]) -> Option<Refusal> {
+    rules::pack_fault_without(rule, Given { n, cells, tags, grades: &vec![0; tags.len()] })
 }
 
 #[test]
@@ -269,8 +277,7 @@ fn the_order_among_other_faults() {
         (check, snps)
     };
     let (first, second) = (record(1, 2, &[1]), record(2, 0, &[1]));
-    let mut stray = second;
-    stray[7] = 1;
+    let stray = graded(second, 16);
     let unknown = record(3, 0, &[3]);
     assert_eq!(fault(3, &[first, record(2, 1, &[])]), (refusal(4, 1), refusal(4, 1)));
     assert_eq!(fault(3, &[first, stray]), (refusal(5, 1), refusal(5, 1)));
@@ -379,7 +386,7 @@ fn boundaries_of_the_sizes() {
 
 #[test]
 fn eight_calls_of_a_column_and_nine() {
-    let rows = |count: usize| Matrix { n: 2, rows: vec![vec![0, 1]; count] };
+    let rows = |count: usize| Matrix::ungraded(2, vec![vec![0, 1]; count]);
     assert_eq!(too_deep(&rows(8)), None);
     assert_eq!(too_deep(&rows(9)), refusal(12, 1));
     assert_eq!(gaps::deep_by_calls(&rows(8)), None);
@@ -444,7 +451,7 @@ fn conflicts_of_every_two() {
 fn conflicts_around_column_64() {
     let bs_on = |bs: std::ops::Range<usize>| {
         let row = (0..128).map(|c| 1 + bs.contains(&c) as u8).collect();
-        Matrix { n: 128, rows: vec![vec![1; 128], row] }
+        Matrix::ungraded(128, vec![vec![1; 128], row])
     };
     let found = |matrix: Matrix| (conflict_counts(&matrix)[1], over_64(&matrix), across_64(&matrix));
     assert_eq!(found(bs_on(0..64)), (64, false, false));

@@ -42,7 +42,7 @@ pub fn places(rows: &[Vec<u8>]) -> impl Iterator<Item = usize> + '_ {
 
 /// The first fault of pack's fragments, if it took those without calls.
 pub fn other_fault(call: &Call) -> Option<Refusal> {
-    pack_fault_without(17, call.number, call.lent.cells.lent(), call.lent.tags.lent())
+    pack_fault_without(17, call.given())
 }
 
 /// What some library could ask of a row in the place of a call, though rows with calls lack it.

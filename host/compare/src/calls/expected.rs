@@ -5,7 +5,7 @@ use crate::brute;
 use crate::counts::conflict_counts;
 use crate::expected::{Accepted, Outcome as TableOutcome};
 use crate::library::{Buffers, Call, Returned};
-use crate::record::{self, places_of, set_cell, span, start, tag, whole_records, Matrix, RECORD};
+use crate::record::{self, grade, places_of, set_cell, span, start, tag, whole_records, Matrix, RECORD};
 use crate::rules::{call_fault, pack_fault, Refusal};
 use crate::service::{Buffer, Service};
 use haplotypes::Outcome;
@@ -51,8 +51,7 @@ fn answered(call: &Call, answer: &Result<Answer, Refusal>, fill: impl FnOnce(&An
 }
 
 pub fn of_pack(call: &Call) -> Expected {
-    let Buffers { table, cells, tags, .. } = &call.lent;
-    match pack_fault(call.number, cells.lent(), tags.lent(), table.lent().len()) {
+    match pack_fault(call.given(), call.lent.length(Buffer::Table)) {
         Some(refusal) => refused(call, refusal),
         None => accepted(call, |after| packed(call.number, after)),
     }
@@ -77,10 +76,11 @@ fn accepted(call: &Call, fill: impl FnOnce(&mut Buffers) -> usize) -> Expected {
 }
 
 fn unpacked(n: usize, after: &mut Buffers) -> usize {
-    let tags: Vec<u32> = whole_records(after.table.lent()).map(tag).collect();
-    after.cells.put(&Matrix::read(after.table.lent(), n).rows.concat());
-    after.tags.put(&tags);
-    tags.len()
+    let Buffers { table, cells, tags, grades, .. } = after;
+    cells.put(&Matrix::read(table.lent(), n).rows.concat());
+    tags.put(&whole_records(table.lent()).map(tag).collect::<Vec<_>>());
+    grades.put(&whole_records(table.lent()).map(grade).collect::<Vec<_>>());
+    tags.lent().len()
 }
 
 fn counted(n: usize, after: &mut Buffers) -> usize {
@@ -91,7 +91,7 @@ fn counted(n: usize, after: &mut Buffers) -> usize {
 
 fn packed(n: usize, after: &mut Buffers) -> usize {
     let rows = Matrix::of_cells(n, after.tags.lent().len(), after.cells.lent()).rows;
-    let table = record::packed(&rows, after.tags.lent());
+    let table = record::packed(&rows, after.tags.lent(), after.grades.lent());
     after.table.put(&table);
     rows.len()
 }

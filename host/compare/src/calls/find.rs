@@ -1,11 +1,12 @@
 //! Find, with tags that a table has once, several times or nowhere.
 
 use super::{compared, expected};
+use crate::grades::MOST_GRADE;
 use crate::guarded::Guarded;
 use crate::library::{Buffers, Call, Library};
 use crate::listing::hexadecimal;
 use crate::order::{falls, keys_of_table};
-use crate::record::{places_of, record, set_tag, span, tag, whole_records, RECORD};
+use crate::record::{grade, places_of, record, set_tag, span, tag, whole_records, RECORD};
 use crate::rng::Rng;
 use crate::rules::MOST_FRAGMENTS;
 use crate::seen::{Counts, Seen, Verdict};
@@ -68,6 +69,8 @@ fn count(table: &[u8], wanted: u32, counts: &mut Counts) {
     counts.add(Seen::FoundPastMost, places.first().is_some_and(|&first| first >= MOST_FRAGMENTS) as usize);
     let past_fall = |&first: &usize| falls(&keys_of_table(table)).next().is_some_and(|fall| first >= fall);
     counts.add(Seen::FoundOutOfOrder, places.first().is_some_and(past_fall) as usize);
-    let is_uncalled = |&first: &usize| span(&table[RECORD * first..]) == 0;
-    counts.add(Seen::FoundUncalled, places.first().is_some_and(is_uncalled) as usize);
+    let found = places.first().map(|&first| &table[RECORD * first..]);
+    counts.add(Seen::FoundUncalled, found.is_some_and(|record| span(record) == 0) as usize);
+    counts.add(Seen::FoundGraded, found.is_some_and(|record| grade(record) > 0) as usize);
+    counts.add(Seen::FoundOver, found.is_some_and(|record| grade(record) > MOST_GRADE) as usize);
 }

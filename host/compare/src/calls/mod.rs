@@ -2,6 +2,7 @@
 
 mod expected;
 mod find;
+mod grades;
 mod order;
 mod pack;
 pub mod round_trips;
@@ -13,7 +14,7 @@ use crate::expected::Outcome as TableOutcome;
 use crate::generate::Cells;
 use crate::guarded::Guarded;
 use crate::library::{Buffers, Call, Library, Returned};
-use crate::record::{column_count, first_without_calls, Matrix, RECORD};
+use crate::record::{column_count, first_without_calls, grade, whole_records, Matrix, RECORD};
 use crate::rng::Rng;
 use crate::rules::{table_fault, LEAST_WORK};
 use crate::seen::{Counts, Seen, Verdict};
@@ -47,10 +48,13 @@ pub fn all(library: Library, table: &Table, cells: &Cells, rng: &mut Rng) -> Res
         let restored = first_without_calls(table.bytes).is_none();
         counts.add(if restored { Seen::TableRoundTrip } else { Seen::UncalledRoundTrip }, 1);
         counts.add(Seen::GappedTableRoundTrip, (restored && has_gaps(table)) as usize);
+        let is_graded = whole_records(table.bytes).any(|record| grade(record) > 0);
+        counts.add(Seen::GradedTableRoundTrip, (restored && is_graded) as usize);
     }
     if round_trips::of_cells(library, cells, rng)? {
         counts.add(Seen::CellsRoundTrip, 1);
         counts.add(Seen::GappedCellsRoundTrip, cells.matrix().is_gapped() as usize);
+        counts.add(Seen::GradedCellsRoundTrip, cells.grades.iter().any(|&grade| grade > 0) as usize);
     }
     Ok(counts)
 }
@@ -89,6 +93,7 @@ fn compared(library: Library, mut call: Call, expected: Expected, counts: &mut C
         counts.add(Seen::LongWork(call.service), long_work as usize);
         order::count(&call, outcome, counts);
         uncalled::count(&call, outcome, counts);
+        grades::count(&call, outcome, counts);
     }
     Ok(())
 }

@@ -1,4 +1,4 @@
-//! Pack, with random cells and tags.
+//! Pack, with random cells, tags and grades.
 
 use super::{compared, expected, sizes};
 use crate::generate::Cells;
@@ -6,17 +6,17 @@ use crate::guarded::Guarded;
 use crate::library::{Buffers, Call, Library};
 use crate::record::RECORD;
 use crate::rng::Rng;
+use crate::rules::Given;
 use crate::seen::Counts;
 use crate::service::{Buffer, Service};
 
 pub fn all(library: Library, given: &Cells, rng: &mut Rng, counts: &mut Counts) -> Result<(), String> {
-    let Cells { n, cells, tags } = given;
     let mut calls = Vec::new();
-    for sizes in sizes::of_calls(Service::Pack, *n, tags.len(), rng) {
-        calls.push(call(sizes.n, cells, tags, sizes.of(Buffer::Table), rng));
+    for sizes in sizes::of_calls(Service::Pack, given.n, given.tags.len(), rng) {
+        calls.push(call(Given { n: sizes.n, ..given.given() }, sizes.of(Buffer::Table), rng));
     }
-    for (cells, tags) in other_lengths(cells, tags) {
-        calls.push(call(*n, &cells, &tags, RECORD * tags.len(), rng));
+    for other in other_lengths(given, rng) {
+        calls.push(call(other.given(), RECORD * other.tags.len(), rng));
     }
     for call in calls {
         let expected = expected::of_pack(&call);
@@ -26,22 +26,36 @@ pub fn all(library: Library, given: &Cells, rng: &mut Rng, counts: &mut Counts) 
     Ok(())
 }
 
-pub fn call(n: usize, cells: &[u8], tags: &[u32], table_length: usize, rng: &mut Rng) -> Call {
+pub fn call(given: Given, table_length: usize, rng: &mut Rng) -> Call {
     let lent = Buffers {
-        cells: Guarded::holding(cells, rng),
-        tags: Guarded::holding(tags, rng),
+        cells: Guarded::holding(given.cells, rng),
+        tags: Guarded::holding(given.tags, rng),
+        grades: Guarded::holding(given.grades, rng),
         table: Guarded::dirty(table_length, rng),
         ..Buffers::default()
     };
-    Call { service: Service::Pack, number: n, lent }
+    Call { service: Service::Pack, number: given.n, lent }
 }
 
-/// A cell or a tag more, and one fewer where there is one.
-fn other_lengths(cells: &[u8], tags: &[u32]) -> [(Vec<u8>, Vec<u32>); 4] {
+/// A cell, a grade, or a tag and a grade more, and one fewer where there is one; and any number of grades.
+fn other_lengths(given: &Cells, rng: &mut Rng) -> [Cells; 7] {
+    let Cells { cells, tags, grades, .. } = given;
+    let any = [&grades[..], &[0; 2], grades].concat()[..rng.between(0, 2 * grades.len() + 2)].to_vec();
     [
-        ([cells, &[0]].concat(), tags.to_vec()),
-        (cells[..cells.len().saturating_sub(1)].to_vec(), tags.to_vec()),
-        (cells.to_vec(), [tags, &[7]].concat()),
-        (cells.to_vec(), tags[..tags.len().saturating_sub(1)].to_vec()),
+        given.with_cells(one_more(cells, 0)),
+        given.with_cells(one_fewer(cells)),
+        given.with_grades(one_more(grades, 0)),
+        given.with_grades(one_fewer(grades)),
+        given.with_grades(any),
+        Cells { tags: one_more(tags, 7), ..given.with_grades(one_more(grades, 0)) },
+        Cells { tags: one_fewer(tags), ..given.with_grades(one_fewer(grades)) },
     ]
+}
+
+fn one_more<T: Copy>(elements: &[T], more: T) -> Vec<T> {
+    elements.iter().copied().chain([more]).collect()
+}
+
+fn one_fewer<T: Copy>(elements: &[T]) -> Vec<T> {
+    elements[..elements.len().saturating_sub(1)].to_vec()
 }

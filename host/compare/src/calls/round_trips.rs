@@ -7,7 +7,7 @@ use crate::generate::Cells;
 use crate::library::{Buffers, Call, Library, Returned};
 use crate::record::{column_count, first_without_calls, RECORD};
 use crate::rng::Rng;
-use crate::rules::{pack_fault, table_fault, MOST_COLUMNS};
+use crate::rules::{pack_fault, table_fault, Given, MOST_COLUMNS};
 use crate::seen::Counts;
 use crate::service::Service;
 use haplotypes::Outcome;
@@ -20,8 +20,9 @@ pub fn of_table(library: Library, table: &[u8], rng: &mut Rng) -> Result<bool, S
         return Ok(false);
     }
     let n = rng.between(least, MOST_COLUMNS);
-    let Buffers { cells, tags, .. } = made(library, unpack(n, table, rng)).lent;
-    let call = pack::call(n, cells.lent(), tags.lent(), table.len(), rng);
+    let Buffers { cells, tags, grades, .. } = made(library, unpack(n, table, rng)).lent;
+    let given = Given { n, cells: cells.lent(), tags: tags.lent(), grades: grades.lent() };
+    let call = pack::call(given, table.len(), rng);
     let mut after = call.lent.clone();
     let outcome = match first_without_calls(table) {
         Some(place) => Outcome::Refused(17, place),
@@ -34,20 +35,20 @@ pub fn of_table(library: Library, table: &[u8], rng: &mut Rng) -> Result<bool, S
     Ok(true)
 }
 
-/// Packs cells and tags and unpacks the table that came out: the cells and tags. False if the rules refuse the cells.
+/// Packs fragments and unpacks the table that came out: the cells, tags and grades. False if the rules refuse the fragments.
 pub fn of_cells(library: Library, given: &Cells, rng: &mut Rng) -> Result<bool, String> {
-    let Cells { n, cells, tags } = given;
-    let length = RECORD * tags.len();
-    if pack_fault(*n, cells, tags, length).is_some() {
+    let m = given.tags.len();
+    if pack_fault(given.given(), RECORD * m).is_some() {
         return Ok(false);
     }
-    let packed = made(library, pack::call(*n, cells, tags, length, rng)).lent.table;
-    let call = unpack(*n, packed.lent(), rng);
+    let packed = made(library, pack::call(given.given(), RECORD * m, rng)).lent.table;
+    let call = unpack(given.n, packed.lent(), rng);
     let mut after = call.lent.clone();
-    after.cells.put(cells);
-    after.tags.put(tags);
+    after.cells.put(&given.cells);
+    after.tags.put(&given.tags);
+    after.grades.put(&given.grades);
     let differs = |difference| format!("{difference}\n{}", given.shown());
-    comes_back(library, call, after, Outcome::Accepted(tags.len())).map_err(differs)?;
+    comes_back(library, call, after, Outcome::Accepted(m)).map_err(differs)?;
     Ok(true)
 }
 

@@ -11,7 +11,7 @@ pub fn count(call: &Call, outcome: Outcome, counts: &mut Counts) {
     match (call.service, outcome) {
         (Service::Pack, Outcome::Accepted(_)) => count_packed(call, counts),
         (Service::Pack, Outcome::Refused(17, place)) => count_refused(call, place, counts),
-        (Service::Pack, Outcome::Refused(number @ (4 | 6 | 9 | 13), place)) => {
+        (Service::Pack, Outcome::Refused(number @ (4..=6 | 9 | 13), place)) => {
             count_other_fault(call, number as usize, place, counts)
         }
         (service, Outcome::Accepted(_)) => {
@@ -42,10 +42,10 @@ fn count_refused(call: &Call, place: usize, counts: &mut Counts) {
     counts.add(seen, 1);
 }
 
-/// Of a refusal by another rule of a fragment. One without calls at its place breaks 6, which alone comes before 17.
+/// Of a refusal by another rule of a fragment. One without calls at its place breaks 6, or 5, which come before 17.
 fn count_other_fault(call: &Call, number: usize, place: usize, counts: &mut Counts) {
     match places(&call.matrix().rows).next() {
-        Some(first) if first == place => counts.add(Seen::UnknownUncalled, 1),
+        Some(first) if first == place => counts.add(Seen::UnknownUncalled, (number == 6) as usize),
         Some(_) => counts.add(Seen::FaultBeforeUncalled(number), 1),
         None => {}
     }

@@ -8,8 +8,8 @@ use super::{block_numbers, PastLimit, Work};
 use crate::answer::Answer;
 use crate::record::{A, B, HOLE};
 
-/// The counts of A and B of each column and side.
-struct Counts {
+/// The weights of A and B of each column and side.
+struct Weights {
     of: Vec<[[usize; 2]; 2]>,
 }
 
@@ -19,7 +19,7 @@ struct Search<'a> {
     /// the least cost of the fragments from each place of the order on, by themselves
     least_from: Vec<usize>,
     sides: Vec<u8>,
-    counts: Counts,
+    weights: Weights,
     work: &'a mut Work,
 }
 
@@ -35,14 +35,15 @@ pub fn first_least_sides(letters: &Letters, work: &mut Work) -> Result<Vec<u8>, 
 
 /// C's answer with these sides.
 pub fn answer(letters: &Letters, sides: Vec<u8>) -> Answer {
-    let mut counts = Counts::none(letters.n());
-    let count = (0..letters.m()).map(|f| counts.put(letters, f, sides[f])).sum();
-    let haplotypes = [0, 1].map(|side| counts.of.iter().map(|column| majority(column[side])).collect());
+    let mut weights = Weights::none(letters.n());
+    let count = (0..letters.m()).map(|f| weights.put(letters, f, sides[f])).sum();
+    let haplotypes = [0, 1].map(|side| weights.of.iter().map(|column| heavier(column[side])).collect());
     let blocks = block_numbers(&letters.corrected(&haplotypes, &sides), letters.all_columns(), &sides);
     Answer { count, keep: vec![true; letters.n()], haplotypes, sides, blocks }
 }
 
-fn majority([a, b]: [usize; 2]) -> u8 {
+/// A call has a weight over 0.
+fn heavier([a, b]: [usize; 2]) -> u8 {
     match (a, b) {
         (0, 0) => HOLE,
         _ if a < b => B,
@@ -59,7 +60,7 @@ fn sides_of_part(letters: &Letters, part: u128, work: &mut Work) -> Result<Vec<u
         least_from: vec![0; order.len() + 1],
         order,
         sides: vec![1; letters.m()],
-        counts: Counts::none(letters.n()),
+        weights: Weights::none(letters.n()),
         work,
     };
     for from in (0..search.order.len()).rev() {
@@ -127,9 +128,9 @@ impl Search<'_> {
                 continue;
             };
             let side = if differs { 3 - old } else { old };
-            let cost = self.counts.put(self.letters, f, side);
+            let cost = self.weights.put(self.letters, f, side);
             let found = cost + self.least_from[at + 1] <= left && self.moved(next, at + 1, left - cost)?;
-            self.counts.take(self.letters, f, side);
+            self.weights.take(self.letters, f, side);
             if found {
                 self.sides[f] = side;
                 return Ok(true);
@@ -146,9 +147,9 @@ impl Search<'_> {
         };
         self.work.spend(1)?;
         for &side in first {
-            let cost = self.counts.put(self.letters, f, side);
+            let cost = self.weights.put(self.letters, f, side);
             let found = cost + self.least_from[at + 1] <= left && self.within(at + 1, &[1, 2], left - cost)?;
-            self.counts.take(self.letters, f, side);
+            self.weights.take(self.letters, f, side);
             if found {
                 self.sides[f] = side;
                 return Ok(true);
@@ -158,9 +159,9 @@ impl Search<'_> {
     }
 }
 
-impl Counts {
-    fn none(n: usize) -> Counts {
-        Counts { of: vec![[[0; 2]; 2]; n] }
+impl Weights {
+    fn none(n: usize) -> Weights {
+        Weights { of: vec![[[0; 2]; 2]; n] }
     }
 
     /// Adds a fragment to a side and returns what it adds to the cost.
@@ -168,9 +169,10 @@ impl Counts {
         let mut cost = 0;
         for (letter, columns) in [letters.a[f], letters.b[f]].into_iter().enumerate() {
             for c in members(columns) {
-                let counts = &mut self.of[c][side as usize - 1];
-                cost += (counts[letter] < counts[1 - letter]) as usize;
-                counts[letter] += 1;
+                let weights = &mut self.of[c][side as usize - 1];
+                let before = weights[0].min(weights[1]);
+                weights[letter] += letters.weights[f];
+                cost += weights[0].min(weights[1]) - before;
             }
         }
         cost
@@ -178,7 +180,7 @@ impl Counts {
 
     fn take(&mut self, letters: &Letters, f: usize, side: u8) {
         for (letter, columns) in [letters.a[f], letters.b[f]].into_iter().enumerate() {
-            members(columns).for_each(|c| self.of[c][side as usize - 1][letter] -= 1);
+            members(columns).for_each(|c| self.of[c][side as usize - 1][letter] -= letters.weights[f]);
         }
     }
 }

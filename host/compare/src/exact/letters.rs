@@ -7,6 +7,7 @@ use crate::record::{Matrix, A, B};
 pub struct Letters {
     pub a: Vec<u128>,
     pub b: Vec<u128>,
+    pub weights: Vec<usize>,
     n: usize,
 }
 
@@ -56,6 +57,7 @@ impl Letters {
         Letters {
             a: matrix.rows.iter().map(|row| columns_of(row, A)).collect(),
             b: matrix.rows.iter().map(|row| columns_of(row, B)).collect(),
+            weights: matrix.weights.clone(),
             n: matrix.n,
         }
     }
@@ -78,6 +80,10 @@ impl Letters {
 
     pub fn calls(&self, f: usize) -> u128 {
         self.a[f] | self.b[f]
+    }
+
+    pub fn weight(&self, fragments: u128) -> usize {
+        members(fragments).map(|f| self.weights[f]).sum()
     }
 
     pub fn fragments_where(&self, holds: impl Fn(usize) -> bool) -> u128 {
@@ -106,6 +112,7 @@ impl Letters {
         Letters {
             a: (0..self.m()).map(|f| calls(f, 0)).collect(),
             b: (0..self.m()).map(|f| calls(f, 1)).collect(),
+            weights: self.weights.clone(),
             n: self.n,
         }
     }

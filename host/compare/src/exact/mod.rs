@@ -1,5 +1,5 @@
 //! Exact methods of another kind than trying every choice. Branching goes on odd cycles (S and F) and on sides (C), with the
-//! number of removals or corrections as the limit. Every part is branched by itself, since parts share neither columns nor
+//! number of removals or the total of corrections as the limit. Every part is branched by itself, since parts share neither columns nor
 //! fragments: the least counts add up, and the first choice of the whole is the first choice of each part. S has a second
 //! method by pairs of columns, F one by pairs of haplotypes, and C one by the sides of open fragments. None settles a table
 //! whose search passes its limit of work. Pairs of columns need a gapless table; C's methods do not.
@@ -103,10 +103,13 @@ pub fn corrections_by_branching(matrix: &Matrix) -> Option<Answer> {
 }
 
 pub fn corrections_by_open_fragments(matrix: &Matrix) -> Option<Answer> {
-    let letters = Letters::new(matrix);
-    let side_2 = open_fragments::first_least_sides(&letters);
-    let sides = (0..matrix.m()).map(|f| 1 + (side_2 >> f & 1) as u8).collect();
-    Some(corrections::answer(&letters, sides))
+    Some(corrections::answer(&Letters::new(matrix), sides_by_open_fragments(matrix)))
+}
+
+/// The first side list of least cost.
+pub fn sides_by_open_fragments(matrix: &Matrix) -> Vec<u8> {
+    let side_2 = open_fragments::first_least_sides(&Letters::new(matrix));
+    (0..matrix.m()).map(|f| 1 + (side_2 >> f & 1) as u8).collect()
 }
 
 /// Is the table error-free on every two of its columns by themselves?

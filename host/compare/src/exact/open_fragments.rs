@@ -26,7 +26,7 @@ fn after_column(letters: &Letters, c: usize, best: &HashMap<u128, Best>) -> Hash
     for (&open, &(cost, sides)) in best {
         for more in subsets(begun) {
             let open = open | more;
-            let found = (cost + column_cost(callers, open), sides | more);
+            let found = (cost + column_cost(letters, callers, open), sides | more);
             let known = after.entry(open & !ended).or_insert(found);
             if order(found) < order(*known) {
                 *known = found;
@@ -40,9 +40,9 @@ fn subsets(set: u128) -> Vec<u128> {
     members(set).fold(vec![0], |subsets, f| subsets.iter().flat_map(|&subset| [subset, subset | 1 << f]).collect())
 }
 
-/// The smaller of the counts of A and B on each side; only open fragments call the column.
-fn column_cost(callers: [u128; 2], side_2: u128) -> usize {
-    let price = |side: u128| callers.map(|set| (set & side).count_ones()).into_iter().min().unwrap_or(0) as usize;
+/// The smaller of the weights of A and B on each side; only open fragments call the column.
+fn column_cost(letters: &Letters, callers: [u128; 2], side_2: u128) -> usize {
+    let price = |side: u128| callers.map(|set| letters.weight(set & side)).into_iter().min().unwrap_or(0);
     price(!side_2) + price(side_2)
 }
 

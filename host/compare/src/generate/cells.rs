@@ -1,28 +1,49 @@
-//! Random cells and tags for pack, with holes between calls and without: most keep its rules, the others are out of order, have
-//! fragments without calls, or another fault or several.
+//! Random fragments for pack, with holes between calls and without: most keep its rules, the others are out of order, have
+//! fragments without calls, grades over 15, or another fault or several.
 
+use super::grades::over;
 use super::rows::{letter, letters, place, punch, tagged, trimmed, Fragment, Row};
 use super::unordered::disorder;
-use crate::record::{Matrix, CELLS, HOLE};
+use crate::record::{Matrix, CELLS, HOLE, RECORD};
 use crate::rng::Rng;
-use crate::rules::{MOST_COLUMNS, MOST_FRAGMENTS};
+use crate::rules::{pack_fault, Given, Refusal, MOST_COLUMNS, MOST_FRAGMENTS};
 
-/// m × n cells, by fragment and then column, and m tags.
+/// What pack is given: m × n cells, by fragment and then column, m tags and m grades.
+#[derive(Clone)]
 pub struct Cells {
     pub n: usize,
     pub cells: Vec<u8>,
     pub tags: Vec<u32>,
+    pub grades: Vec<u8>,
 }
 
 impl Cells {
+    /// Fragments of grade 0.
+    pub fn ungraded(n: usize, cells: Vec<u8>, tags: Vec<u32>) -> Cells {
+        let grades = vec![0; tags.len()];
+        Cells { n, cells, tags, grades }
+    }
+
+    pub fn given(&self) -> Given<'_> {
+        Given { n: self.n, cells: &self.cells, tags: &self.tags, grades: &self.grades }
+    }
+
+    pub fn with_cells(&self, cells: Vec<u8>) -> Cells {
+        Cells { cells, ..self.clone() }
+    }
+
+    pub fn with_grades(&self, grades: Vec<u8>) -> Cells {
+        Cells { grades, ..self.clone() }
+    }
+
     pub fn matrix(&self) -> Matrix {
         Matrix::of_cells(self.n, self.tags.len(), &self.cells)
     }
 
-    /// A line for each fragment: its tag and its cells.
+    /// A line for each fragment: its tag, its grade and its cells.
     pub fn shown(&self) -> String {
-        let rows = self.matrix().rows;
-        rows.iter().zip(&self.tags).map(|(row, tag)| format!("tag {tag}, cells {row:?}\n")).collect()
+        let fragments = self.tags.iter().zip(&self.grades).zip(self.matrix().rows);
+        fragments.map(|((tag, grade), row)| format!("tag {tag}, grade {grade}, cells {row:?}\n")).collect()
     }
 }
 
@@ -48,8 +69,30 @@ pub fn cells(rng: &mut Rng) -> Cells {
         let first = first_out_of_order(&fragments);
         first.filter(|_| rng.chance(50)).into_iter().for_each(|place| change(rng, n, &mut fragments, place));
     }
+    if m > 0 && rng.chance(15) {
+        over_graded(rng, n, &mut fragments);
+    }
+    of_fragments(n, &fragments)
+}
+
+fn of_fragments(n: usize, fragments: &[Fragment]) -> Cells {
     let cells = fragments.iter().flat_map(|fragment| widened(fragment, n)).collect();
-    Cells { n, cells, tags: fragments.iter().map(|fragment| fragment.tag).collect() }
+    let tags = fragments.iter().map(|fragment| fragment.tag).collect();
+    Cells { n, cells, tags, grades: fragments.iter().map(|fragment| fragment.grade).collect() }
+}
+
+/// Grades over 15 at some places, mostly where another fault is or around it.
+fn over_graded(rng: &mut Rng, n: usize, fragments: &mut [Fragment]) {
+    let last = fragments.len() - 1;
+    let places = match pack_fault(of_fragments(n, fragments).given(), RECORD * fragments.len()) {
+        Some(fault) if rng.chance(75) => {
+            let Refusal { place, .. } = fault;
+            let around = [place, place, place, rng.between(0, place), rng.between(place, last)];
+            vec![rng.pick(&around)]
+        }
+        _ => some_places(rng, fragments.len()),
+    };
+    places.into_iter().for_each(|place| fragments[place].grade = over(rng));
 }
 
 fn first_out_of_order(fragments: &[Fragment]) -> Option<usize> {

@@ -1,10 +1,12 @@
 //! Tables with the faults that rules 1 to 9 refuse, one at a time and several at once, their records in order. A hole between
 //! two calls is a fault to S and F alone.
 
+use super::grades::{any, over};
 use super::mates::gapped_rows;
 use super::rows::{table, Row};
 use super::small::{noisy_rows, uniform_rows};
-use crate::record::{in_order, record, set_cell, set_start, span, tag, CELLS, HOLE, RECORD};
+use crate::grades::MOST_GRADE;
+use crate::record::{graded, in_order, record, set_cell, set_start, set_tag, span, tag, CELLS, HOLE, RECORD};
 use crate::rng::Rng;
 use crate::rules::MOST_FRAGMENTS;
 
@@ -13,7 +15,7 @@ const TABLE_FAULTS: [fn(&mut Rng, &mut Vec<u8>); 3] = [ragged, too_many_fragment
 
 /// Faults of one record. A tag can be found twice only beside another record, so that fault is made apart.
 const RECORD_FAULTS: [fn(&mut Rng, &mut [u8]); 9] =
-    [too_many_columns, last_column, span_over_cells, byte_7, stray_cell, unknown_call, open_end, gap, gap];
+    [too_many_columns, last_column, span_over_cells, over_grade, stray_cell, unknown_call, open_end, gap, gap];
 
 pub fn one(rng: &mut Rng) -> Vec<u8> {
     let mut bytes = base(rng);
@@ -36,6 +38,26 @@ pub fn of_mates(rng: &mut Rng) -> Vec<u8> {
     for _ in 0..rng.between(1, 3) {
         fault(rng, &mut bytes, 5);
     }
+    in_order(&bytes)
+}
+
+/// A grade over 15, alone and beside other faults, mostly of the same record: its cells, or the tag of another.
+pub fn over_graded(rng: &mut Rng) -> Vec<u8> {
+    let rows = if rng.chance(50) { base_rows(rng) } else { gapped_rows(rng, base_rows) };
+    let mut bytes = table(rng, rows);
+    let places: Vec<usize> = (0..bytes.len()).step_by(RECORD).collect();
+    let place = rng.pick(&places);
+    for _ in 0..rng.below(3) {
+        match rng.below(10) {
+            0..=4 => fault_of_record(rng, &mut bytes[place..place + RECORD]),
+            5..=6 => {
+                let other = tag(&bytes[rng.pick(&places)..]);
+                set_tag(&mut bytes[place..], other);
+            }
+            _ => fault(rng, &mut bytes, 0),
+        }
+    }
+    over_grade(rng, &mut bytes[place..]);
     in_order(&bytes)
 }
 
@@ -69,7 +91,7 @@ pub fn long(rng: &mut Rng) -> Vec<u8> {
     let widest = rng.pick(&[1, 1, 3]);
     while bytes.len() < length {
         let span = rng.between(0, widest);
-        bytes.extend(record(bytes.len() as u32, 0, &vec![1; span]));
+        bytes.extend(graded(record(bytes.len() as u32, 0, &vec![1; span]), any(rng)));
     }
     bytes.truncate(length);
     if length >= RECORD && rng.chance(40) {
@@ -97,6 +119,9 @@ pub fn random_fields(rng: &mut Rng) -> Vec<u8> {
         }
         if rng.chance(60) {
             set_start(&mut fields, rng.pick(&[0, 1, 2, 5, 30, 32, 127, 255, 256]));
+        }
+        if rng.chance(30) {
+            fields[7] = rng.below(18) as u8;
         }
         if rng.chance(5) {
             fields[rng.below(RECORD)] ^= 1 << rng.below(8);
@@ -174,8 +199,10 @@ fn span_over_cells(rng: &mut Rng, record: &mut [u8]) {
     }
 }
 
-fn byte_7(rng: &mut Rng, record: &mut [u8]) {
-    record[7] = 1 << rng.below(8);
+/// In some cases a grade, which is no fault by itself.
+fn over_grade(rng: &mut Rng, record: &mut [u8]) {
+    let lawful = any(rng);
+    record[7] = if rng.chance(85) { over(rng) } else { rng.pick(&[MOST_GRADE, lawful]) };
 }
 
 fn stray_cell(rng: &mut Rng, record: &mut [u8]) {

@@ -2,6 +2,8 @@
 
 mod cells;
 mod faulty;
+mod graded;
+mod grades;
 mod large;
 mod mates;
 mod rows;
@@ -36,6 +38,7 @@ pub fn kinds() -> Vec<Kind> {
         kind("without calls", 50, small::uncalled),
         kind("deep", 300, small::deep),
         kind("up to 12 x 12", 200, small::twelve),
+        kind("held together", 800, graded::held_together),
         kind("mates, uniform", 4800, mates::uniform),
         kind("mates, noisy copies", 4800, mates::noisy),
         kind("mates, cycles", 1500, mates::cycles),
@@ -44,6 +47,7 @@ pub fn kinds() -> Vec<Kind> {
         kind("one fault", 1500, faulty::one),
         kind("several faults", 1000, faulty::several),
         kind("mates and faults", 800, faulty::of_mates),
+        kind("grades over 15", 600, faulty::over_graded),
         kind("long or ragged", 400, faulty::long),
         kind("random fields", 600, faulty::random_fields),
         kind("out of order", 1500, unordered::table),
@@ -61,6 +65,7 @@ pub fn kinds() -> Vec<Kind> {
         kind("full, blocks", 60, large::full_blocks),
         kind("full, 8 and 9 calls", 20, large::full_at_depth),
         kind("full, heavy noise", 20, large::full_heavy_noise),
+        kind("full, graded", 24, graded::full),
         kind("full, mates", 40, mates::full),
         kind("full, mates shallow", 60, mates::full_shallow),
         kind("full, mates at depth", 80, mates::full_at_depth),

@@ -1,6 +1,7 @@
 //! Fragments before they have bytes, without tags and with them, and the shapes that the kinds of tables share.
 
-use crate::record::{record, stretch, A, B, HOLE};
+use super::grades::grades;
+use crate::record::{graded, record, stretch, A, B, HOLE};
 use crate::rng::Rng;
 use std::collections::HashSet;
 
@@ -12,12 +13,13 @@ pub fn trimmed(cells: &[u8]) -> Row {
     (stretch(cells).start, cells[stretch(cells)].to_vec())
 }
 
-/// A fragment with its tag. Fragments compare by start and then by tag, as records stand in order.
+/// A fragment with its tag and grade. Fragments compare by start and then by tag, as records stand in order.
 #[derive(Clone, PartialEq, Eq, PartialOrd, Ord)]
 pub struct Fragment {
     pub start: usize,
     pub tag: u32,
     pub cells: Vec<u8>,
+    pub grade: u8,
 }
 
 /// The bytes of a table with these fragments in order.
@@ -26,17 +28,24 @@ pub fn table(rng: &mut Rng, rows: Vec<Row>) -> Vec<u8> {
 }
 
 pub fn records(fragments: &[Fragment]) -> Vec<u8> {
-    fragments.iter().flat_map(|fragment| record(fragment.tag, fragment.start, &fragment.cells)).collect()
+    let bytes = |Fragment { start, tag, cells, grade }: &Fragment| graded(record(*tag, *start, cells), *grade);
+    fragments.iter().flat_map(bytes).collect()
 }
 
-/// The fragments with tags, in order. At one start they stand in any order, or where tags are counted at times in the order
-/// given.
-pub fn tagged(rng: &mut Rng, mut rows: Vec<Row>) -> Vec<Fragment> {
+/// The fragments with tags and grades, in order.
+pub fn tagged(rng: &mut Rng, rows: Vec<Row>) -> Vec<Fragment> {
+    let grades = grades(rng, rows.len());
+    graded_as(rng, rows.into_iter().zip(grades).collect())
+}
+
+/// The fragments with these grades and with tags, in order. At one start they stand in any order, or where tags are counted at
+/// times in the order given.
+pub fn graded_as(rng: &mut Rng, mut rows: Vec<(Row, u8)>) -> Vec<Fragment> {
     if rng.chance(75) {
         rng.shuffle(&mut rows);
     }
     let tags = tags(rng, rows.len());
-    let fragment = |((start, cells), tag): (Row, u32)| Fragment { start, tag, cells };
+    let fragment = |(((start, cells), grade), tag): ((Row, u8), u32)| Fragment { start, tag, cells, grade };
     let mut fragments: Vec<Fragment> = rows.into_iter().zip(tags).map(fragment).collect();
     fragments.sort();
     fragments

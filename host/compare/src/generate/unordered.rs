@@ -107,7 +107,7 @@ fn without_calls(rng: &mut Rng, fragments: &mut Vec<Fragment>) {
     let place = place(rng, fragments.len());
     let before = &fragments[place];
     let tag = if before.start == 0 { lower(rng, before.tag) } else { rng.next() as u32 };
-    put_after(fragments, place, Fragment { start: 0, tag, cells: Vec::new() });
+    put_after(fragments, place, Fragment { start: 0, tag, cells: Vec::new(), grade: before.grade });
 }
 
 /// Where there is no room for more, the next one goes, or the first.

@@ -10,7 +10,7 @@ use crate::answer::Answer;
 use crate::compare::{listing_says, same_text};
 use crate::coverage::{self, Demand};
 use crate::methods::{like_check, settled, Method, Settled, FRAGMENTS, SNPS};
-use crate::record::{record, Matrix, A, B, HOLE};
+use crate::record::{graded, record, Matrix, A, B, HOLE};
 use crate::runner::Tally;
 use crate::{agree, expected};
 use std::path::Path;
@@ -63,12 +63,47 @@ F 0 11 AB -A 1112 0,1,2,0
 C 0 11 AB -A 1112 0,1,2,0
 ";
 
+/// AAA, BAA, BAA, -BB: the last two columns hold the first three together. Grades as they are given.
+fn with_grades(grades: [u8; 4]) -> Vec<u8> {
+    let records = [record(1, 0, &[A, A, A]), record(2, 0, &[B, A, A]), record(3, 0, &[B, A, A]), record(4, 1, &[B, B])];
+    records.into_iter().zip(grades).flat_map(|(record, grade)| graded(record, grade)).collect()
+}
+
+/// The A of column 0 weighs 60, and the two Bs there weigh 2.
+pub fn graded_table() -> Vec<u8> {
+    with_grades([15, 0, 0, 15])
+}
+
+/// By hand: S and F as without grades; the two Bs become A.
+pub const GRADED_LISTING: &str = "\
+fragments 4 snps 3
+error-free no
+S 1 011 #AA #BB 1112 0,0,0,0
+F 1 111 AAA BAA 1220 0,0,0,-
+C 2 111 AAA -BB 1112 0,0,0,0
+";
+
+/// The same fragments of grade 0: the one A becomes B.
+pub fn plain_table() -> Vec<u8> {
+    with_grades([0; 4])
+}
+
+pub const PLAIN_LISTING: &str = "\
+fragments 4 snps 3
+error-free no
+S 1 011 #AA #BB 1112 0,0,0,0
+F 1 111 AAA BAA 1220 0,0,0,-
+C 1 111 BAA -BB 1112 0,0,0,0
+";
+
 /// The number of wrong expectations, libraries, methods and counts, all noticed.
 pub fn run(listing: Option<&Path>) -> Result<usize, String> {
     let listings = wrong_listings(listing, &printed_table(), PRINTED_LISTING)?
         + wrong_listings(listing, &gapped_triangle(), TRIANGLE_LISTING)?
         + wrong_listings(listing, &unordered_triangle(), UNORDERED_LISTING)?
-        + wrong_listings(listing, &stored_table(), STORED_LISTING)?;
+        + wrong_listings(listing, &stored_table(), STORED_LISTING)?
+        + wrong_listings(listing, &graded_table(), GRADED_LISTING)?
+        + wrong_listings(listing, &plain_table(), PLAIN_LISTING)?;
     Ok(listings + wrong_libraries::noticed()? + wrong_methods()? + too_little_seen(false)? + too_little_seen(true)?)
 }
 

@@ -84,7 +84,7 @@ fn near_mate(row: &[u8]) -> Vec<u8> {
 }
 
 fn near_mates(matrix: &Matrix) -> Matrix {
-    Matrix { n: matrix.n, rows: matrix.rows.iter().map(|row| near_mate(row)).collect() }
+    Matrix { rows: matrix.rows.iter().map(|row| near_mate(row)).collect(), ..matrix.clone() }
 }
 
 /// Writes what a service leaves of a table of which it takes the near mates alone.
@@ -104,7 +104,7 @@ pub fn near_cells() -> Wrong {
 
 pub fn near_records() -> Wrong {
     of_near_mates(Service::Pack, Buffer::Table, |call, near| {
-        let table = packed(&near.rows, call.lent.tags.lent());
+        let table = packed(&near.rows, call.lent.tags.lent(), call.lent.grades.lent());
         call.lent.table.put(&table);
     })
 }

@@ -78,11 +78,11 @@ fn tables_in_order() -> Vec<(Vec<u8>, Cells)> {
 }
 
 fn printed_cells() -> Cells {
-    Cells { n: 3, cells: vec![1, 1, 0, 2, 1, 1, 0, 2, 2], tags: vec![10, 11, 12] }
+    Cells::ungraded(3, vec![1, 1, 0, 2, 1, 1, 0, 2, 2], vec![10, 11, 12])
 }
 
 fn triangle_cells() -> Cells {
-    Cells { n: 3, cells: vec![1, 2, 0, 2, 0, 1, 0, 1, 2], tags: vec![10, 11, 12] }
+    Cells::ungraded(3, vec![1, 2, 0, 2, 0, 1, 0, 1, 2], vec![10, 11, 12])
 }
 
 fn must_be_noticed(wrong: &Wrong, tables: &[(Vec<u8>, Cells)]) -> Result<(), String> {

@@ -6,7 +6,7 @@ use super::wrong_libraries::{flipping, Wrong, FIRST};
 use crate::generate::Cells;
 use crate::library::{Call, Returned};
 use crate::order::{falls, keys, keys_of_table, other_fault, Other, OTHERS};
-use crate::record::{column_count, record, span, tag, whole_records, Matrix, A, B, HOLE, RECORD};
+use crate::record::{column_count, graded, record, span, tag, whole_records, Matrix, A, B, HOLE, RECORD};
 use crate::rules::{too_deep, Refusal};
 use crate::service::Service;
 use haplotypes::Outcome::{self, Accepted, Refused};
@@ -33,7 +33,7 @@ fn both(records: &[Record]) -> (Vec<u8>, Cells) {
 
 fn fragments(table: &[u8]) -> Cells {
     let n = column_count(table);
-    Cells { n, cells: Matrix::read(table, n).rows.concat(), tags: whole_records(table).map(tag).collect() }
+    Cells::ungraded(n, Matrix::read(table, n).rows.concat(), whole_records(table).map(tag).collect())
 }
 
 /// The fragments with calls, as pack takes no others.
@@ -72,15 +72,13 @@ fn out_of_order() -> Vec<Vec<Record>> {
 /// One record that is out of order and breaks another rule (8 is the triangle's); a fault before it, and after it.
 fn with_another_fault() -> [(Vec<Record>, Cells); 7] {
     let (first, second) = (record(1, 2, &[A]), record(2, 0, &[A]));
-    let mut byte_7 = second;
-    byte_7[7] = 1;
     let unknown = record(3, 0, &[A, 3, A]);
     let of_pack = |records: &[Record]| both(records).1;
     let alone = || of_pack(&[first, second]);
-    let far = Cells { n: 128, cells: far_mates_after_another(), tags: vec![1, 2] };
+    let far = Cells::ungraded(128, far_mates_after_another(), vec![1, 2]);
     [
         (vec![first, record(2, 1, &[])], far),
-        (vec![first, byte_7], alone()),
+        (vec![first, graded(second, 16)], alone()),
         (vec![first, unknown], of_pack(&[first, unknown])),
         (vec![first, record(2, 0, &[A, HOLE])], alone()),
         (vec![first, record(1, 0, &[A])], of_pack(&[first, record(1, 0, &[A])])),

@@ -31,11 +31,11 @@ fn plain_cells() -> Cells {
 }
 
 fn given(rows: &[[u8; 2]], tags: &[u32]) -> Cells {
-    Cells { n: 2, cells: rows.concat(), tags: tags.to_vec() }
+    Cells::ungraded(2, rows.concat(), tags.to_vec())
 }
 
 fn on_no_columns(m: usize) -> Cells {
-    Cells { n: 0, cells: Vec::new(), tags: (0..m as u32).collect() }
+    Cells::ungraded(0, Vec::new(), (0..m as u32).collect())
 }
 
 const CALLED: [u8; 2] = [A, B];
@@ -68,7 +68,7 @@ fn beside_other_faults() -> Vec<Cells> {
 /// Rows of one call, A or B, in the first column, the last and column 64; and no fragments.
 fn accepted() -> Vec<Cells> {
     let far = [&[HOLE; 64][..], &CALLED].concat();
-    vec![given(&[[A, HOLE], [HOLE, B]], &[1, 2]), Cells { n: far.len(), cells: far, tags: vec![1] }, given(&[], &[])]
+    vec![given(&[[A, HOLE], [HOLE, B]], &[1, 2]), Cells::ungraded(far.len(), far, vec![1]), given(&[], &[])]
 }
 
 pub fn all() -> Vec<Wrong> {
@@ -133,7 +133,7 @@ fn taking(taken: Taken) -> Wrong {
             Some(refusal) => *outcome = refused_by(refusal),
             None => {
                 let rows = call.matrix().rows;
-                let table = packed(&rows, call.lent.tags.lent());
+                let table = packed(&rows, call.lent.tags.lent(), call.lent.grades.lent());
                 call.lent.table.put(&table);
                 *outcome = Accepted(rows.len());
             }
@@ -171,7 +171,7 @@ fn after_all() -> Wrong {
 /// Rule 17 before the other rules of all fragments.
 fn before_all() -> Wrong {
     of_pack(|call, outcome| match outcome {
-        Refused(4 | 6 | 9 | 13, place) => {
+        Refused(4..=6 | 9 | 13, place) => {
             first_uncalled(call).filter(|&uncalled| uncalled > place).map(|uncalled| Refused(17, uncalled))
         }
         _ => None,
