@@ -92,15 +92,22 @@ impl Moving {
 }
 
 impl Search<'_> {
-    /// Settles the least cost of the fragments from a place of the order on.
+    /// Settles the least cost of the fragments from a place of the order on: the first of them is put beside a least side list
+    /// of the others, and lists of ever less cost are looked for.
     fn find_least(&mut self, from: usize) -> Result<(), PastLimit> {
-        let mut limit = self.least_from[from + 1];
+        let mut least = self.cost_from(from);
         // the two sides can be exchanged, so the first fragment is on side 1
-        while !self.within(from, &[1], limit)? {
-            limit += 1;
+        while least > self.least_from[from + 1] && self.within(from, &[1], least - 1)? {
+            least = self.cost_from(from);
         }
-        self.least_from[from] = limit;
+        self.least_from[from] = least;
         Ok(())
+    }
+
+    /// What `sides` costs for the fragments from a place of the order on, by themselves.
+    fn cost_from(&self, from: usize) -> usize {
+        let mut weights = Weights::none(self.letters.n());
+        self.order[from..].iter().map(|&f| weights.put(self.letters, f, self.sides[f])).sum()
     }
 
     /// From a least side list to the first one: each fragment in record order moves to side 1 if a list of the same cost

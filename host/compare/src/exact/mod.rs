@@ -24,7 +24,7 @@ pub struct PastLimit;
 /// A node of S or F compares all pairs of the part's fragments; a node of C only adds one fragment. So S and F are
 /// limited by the pairs, to a fraction of a second for a medium part as for a full one.
 const MOST_PAIRS: u64 = 10_000_000;
-const MOST_SIDE_NODES: u64 = 10_000_000;
+const MOST_SIDE_NODES: u64 = 1_000_000;
 const MOST_COLUMN_NODES: u64 = 1_000_000;
 
 /// The work that a search may still do.
