@@ -32,18 +32,9 @@ pub struct Table<'a> {
 /// Every service: right calls and wrong ones, and both round trips. Pack has cells of its own.
 pub fn all(library: Library, table: &Table, cells: &Cells, rng: &mut Rng) -> Result<Counts, String> {
     let mut counts = Counts::default();
-    for service in Service::ON_TABLES {
-        for sizes in sizes::of_calls(service, column_count(table.bytes), table.bytes.len() / RECORD, rng) {
-            let call = on_table(service, table.bytes, sizes, rng);
-            let expected = expected::of_call(&call, table.outcome);
-            if matches!(expected.returned, Returned::Outcome(Outcome::Refused(8, _))) {
-                counts.add(gap(&call), 1);
-            }
-            compared(library, call, expected, &mut counts)?;
-        }
+    for service in Service::ALL {
+        of_service(library, service, table, cells, rng, &mut counts)?;
     }
-    find::all(library, table.bytes, rng, &mut counts)?;
-    pack::all(library, cells, rng, &mut counts)?;
     if round_trips::of_table(library, table.bytes, rng)? {
         let restored = first_without_calls(table.bytes).is_none();
         counts.add(if restored { Seen::TableRoundTrip } else { Seen::UncalledRoundTrip }, 1);
@@ -57,6 +48,40 @@ pub fn all(library: Library, table: &Table, cells: &Cells, rng: &mut Rng) -> Res
         counts.add(Seen::GradedCellsRoundTrip, cells.grades.iter().any(|&grade| grade > 0) as usize);
     }
     Ok(counts)
+}
+
+/// The calls of one service.
+pub fn of_service(
+    library: Library,
+    service: Service,
+    table: &Table,
+    cells: &Cells,
+    rng: &mut Rng,
+    counts: &mut Counts,
+) -> Result<(), String> {
+    match service {
+        Service::Find => find::all(library, table.bytes, rng, counts),
+        Service::Pack => pack::all(library, cells, rng, counts),
+        _ => on_tables(library, service, table, rng, counts),
+    }
+}
+
+fn on_tables(
+    library: Library,
+    service: Service,
+    table: &Table,
+    rng: &mut Rng,
+    counts: &mut Counts,
+) -> Result<(), String> {
+    for sizes in sizes::of_calls(service, column_count(table.bytes), table.bytes.len() / RECORD, rng) {
+        let call = on_table(service, table.bytes, sizes, rng);
+        let expected = expected::of_call(&call, table.outcome);
+        if matches!(expected.returned, Returned::Outcome(Outcome::Refused(8, _))) {
+            counts.add(gap(&call), 1);
+        }
+        compared(library, call, expected, counts)?;
+    }
+    Ok(())
 }
 
 fn has_gaps(table: &Table) -> bool {

@@ -13,6 +13,7 @@ use crate::library::{proved, Buffers, Call, Library, Returned};
 use crate::record::{places_of, record, Matrix, CELLS, HOLE, RECORD};
 use crate::rng::Rng;
 use crate::rules::LEAST_WORK;
+use crate::seen::Counts;
 use crate::service::{Buffer, Service};
 use haplotypes::Outcome::{Accepted, Refused};
 use std::ops::Range;
@@ -27,9 +28,21 @@ pub struct Wrong {
 /// Spoils what a call returned or left. It has what the buffers held before.
 type Spoil = Box<dyn Fn(&mut Call, &mut Returned, Buffers) + Sync>;
 
+/// A table with what the methods make of it, and cells for pack.
+struct Case {
+    bytes: Vec<u8>,
+    outcome: expected::Outcome,
+    cells: Cells,
+}
+
+fn cases(tables: Vec<(Vec<u8>, Cells)>) -> Result<Vec<Case>, String> {
+    let case = |(bytes, cells): (Vec<u8>, Cells)| Ok(Case { outcome: expected::outcome(&bytes)?, bytes, cells });
+    tables.into_iter().map(case).collect()
+}
+
 /// The number of wrong libraries, each noticed by the comparison that the linked one passes.
 pub fn noticed() -> Result<usize, String> {
-    let tables = tables_in_order();
+    let tables = cases(tables_in_order())?;
     compared(&proved, &tables)?;
     let mut all = wrong_outcomes();
     all.extend(Service::ALL.into_iter().flat_map(wrong_elements));
@@ -39,27 +52,28 @@ pub fn noticed() -> Result<usize, String> {
     all.extend(counts_of_refused());
     all.extend(wrong_parts());
     let of_gaps = wrong_gaps::all();
+    let gapless = cases(gapless_tables())?;
     // without holes between calls none of these would be noticed
-    of_gaps.iter().try_for_each(|wrong| compared(&wrong.library(), &gapless_tables()))?;
+    of_gaps.iter().try_for_each(|wrong| wrong.compared(&gapless))?;
     all.extend(of_gaps);
     all.iter().try_for_each(|wrong| must_be_noticed(wrong, &tables))?;
-    let orders = all_noticed(&wrong_order::all(), &wrong_order::tables(), &wrong_order::plain_tables())?;
-    let uncalled = all_noticed(&wrong_uncalled::all(), &wrong_uncalled::tables(), &wrong_uncalled::plain_tables())?;
+    let orders = all_noticed(&wrong_order::all(), wrong_order::tables(), wrong_order::plain_tables())?;
+    let uncalled = all_noticed(&wrong_uncalled::all(), wrong_uncalled::tables(), wrong_uncalled::plain_tables())?;
     Ok(all.len() + orders + uncalled + wrong_round_trips()?)
 }
 
 /// The number of wrong libraries, each noticed by these tables, and not by plain ones, of which all say the same.
-fn all_noticed(all: &[Wrong], tables: &[(Vec<u8>, Cells)], plain_tables: &[(Vec<u8>, Cells)]) -> Result<usize, String> {
-    compared(&proved, tables)?;
-    all.iter().try_for_each(|wrong| compared(&wrong.library(), plain_tables))?;
-    all.iter().try_for_each(|wrong| must_be_noticed(wrong, tables))?;
+fn all_noticed(all: &[Wrong], tables: Vec<(Vec<u8>, Cells)>, plain: Vec<(Vec<u8>, Cells)>) -> Result<usize, String> {
+    let (tables, plain) = (cases(tables)?, cases(plain)?);
+    compared(&proved, &tables)?;
+    all.iter().try_for_each(|wrong| wrong.compared(&plain))?;
+    all.iter().try_for_each(|wrong| must_be_noticed(wrong, &tables))?;
     Ok(all.len())
 }
 
 /// The calls of a run about some tables, and about the cells with each.
-fn compared(library: Library, tables: &[(Vec<u8>, Cells)]) -> Result<(), String> {
-    for (bytes, cells) in tables {
-        let outcome = &expected::outcome(bytes)?;
+fn compared(library: Library, cases: &[Case]) -> Result<(), String> {
+    for Case { bytes, outcome, cells } in cases {
         calls::all(library, &Table { bytes, outcome }, cells, &mut Rng::new(1))?;
     }
     Ok(())
@@ -85,9 +99,9 @@ fn triangle_cells() -> Cells {
     Cells::ungraded(3, vec![1, 2, 0, 2, 0, 1, 0, 1, 2], vec![10, 11, 12])
 }
 
-fn must_be_noticed(wrong: &Wrong, tables: &[(Vec<u8>, Cells)]) -> Result<(), String> {
+fn must_be_noticed(wrong: &Wrong, cases: &[Case]) -> Result<(), String> {
     let name = wrong.service.name();
-    match compared(&wrong.library(), tables) {
+    match wrong.compared(cases) {
         Ok(()) => Err(format!("self-test: a wrong {name} passed: {:?}", wrong.said)),
         Err(difference) if difference.starts_with(name) && difference.contains(&wrong.said) => Ok(()),
         Err(difference) => Err(format!("self-test: a wrong {name} ({:?}) is reported as {difference}", wrong.said)),
@@ -113,6 +127,15 @@ impl Wrong {
 
     pub fn in_buffer(self, buffer: Buffer) -> Wrong {
         Wrong { said: format!(": in its {}, ", buffer.name()), ..self }
+    }
+
+    /// Its calls of the service that it is wrong about.
+    fn compared(&self, cases: &[Case]) -> Result<(), String> {
+        for Case { bytes, outcome, cells } in cases {
+            let (table, counts) = (Table { bytes, outcome }, &mut Counts::default());
+            calls::of_service(&self.library(), self.service, &table, cells, &mut Rng::new(1), counts)?;
+        }
+        Ok(())
     }
 
     fn library(&self) -> impl Fn(&mut Call) -> Returned + Sync + '_ {
