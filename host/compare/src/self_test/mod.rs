@@ -2,6 +2,7 @@
 //! library that is wrong in one way is noticed, a method that differs, and a run that has seen too little.
 
 mod wrong_gaps;
+mod wrong_grades;
 mod wrong_libraries;
 mod wrong_order;
 mod wrong_uncalled;

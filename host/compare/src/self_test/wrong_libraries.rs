@@ -1,18 +1,21 @@
 //! Libraries that are wrong in one way each. The linked one makes the call, and what it returned or left is then spoiled:
 //! a count, a refusal, an element of each buffer or beside it, work left dirty, other counts of conflicts, another part of
-//! the table, and whatever is wrong about holes (`wrong_gaps`), about the order of records (`wrong_order`) and about fragments
-//! without calls (`wrong_uncalled`).
+//! the table, and whatever is wrong about holes (`wrong_gaps`), about the order of records (`wrong_order`), about fragments
+//! without calls (`wrong_uncalled`) and about grades (`wrong_grades`).
 
-use super::{gapped_triangle, must_differ, printed_table, stored_table, wrong_gaps, wrong_order, wrong_uncalled};
+use super::{
+    gapped_triangle, graded_table, must_differ, printed_table, stored_table, wrong_gaps, wrong_grades, wrong_order,
+    wrong_uncalled,
+};
 use crate::agree;
 use crate::calls::{self, round_trips, Table};
 use crate::counts::conflicts;
 use crate::expected;
 use crate::generate::Cells;
 use crate::library::{proved, Buffers, Call, Library, Returned};
-use crate::record::{places_of, record, Matrix, CELLS, HOLE, RECORD};
+use crate::record::{column_count, grade, places_of, record, tag, whole_records, Matrix, CELLS, HOLE, RECORD};
 use crate::rng::Rng;
-use crate::rules::LEAST_WORK;
+use crate::rules::{Refusal, LEAST_WORK};
 use crate::seen::Counts;
 use crate::service::{Buffer, Service};
 use haplotypes::Outcome::{Accepted, Refused};
@@ -51,6 +54,7 @@ pub fn noticed() -> Result<usize, String> {
     all.extend(counts_left());
     all.extend(counts_of_refused());
     all.extend(wrong_parts());
+    all.extend(wrong_grades::of_any_table());
     let of_gaps = wrong_gaps::all();
     let gapless = cases(gapless_tables())?;
     // without holes between calls none of these would be noticed
@@ -59,7 +63,8 @@ pub fn noticed() -> Result<usize, String> {
     all.iter().try_for_each(|wrong| must_be_noticed(wrong, &tables))?;
     let orders = all_noticed(&wrong_order::all(), wrong_order::tables(), wrong_order::plain_tables())?;
     let uncalled = all_noticed(&wrong_uncalled::all(), wrong_uncalled::tables(), wrong_uncalled::plain_tables())?;
-    Ok(all.len() + orders + uncalled + wrong_round_trips()?)
+    let grades = all_noticed(&wrong_grades::all(), wrong_grades::tables(), wrong_grades::plain_tables())?;
+    Ok(all.len() + orders + uncalled + grades + wrong_round_trips()?)
 }
 
 /// The number of wrong libraries, each noticed by these tables, and not by plain ones, of which all say the same.
@@ -89,6 +94,19 @@ fn gapless_tables() -> Vec<(Vec<u8>, Cells)> {
 fn tables_in_order() -> Vec<(Vec<u8>, Cells)> {
     let gapped = wrong_gaps::tables().map(|bytes| (bytes, triangle_cells()));
     gapless_tables().into_iter().chain(gapped).collect()
+}
+
+pub type Record = [u8; RECORD];
+
+/// A table and its fragments for pack.
+pub fn both(records: &[Record]) -> (Vec<u8>, Cells) {
+    (records.concat(), fragments(&records.concat()))
+}
+
+pub fn fragments(table: &[u8]) -> Cells {
+    let n = column_count(table);
+    let (tags, grades) = whole_records(table).map(|record| (tag(record), grade(record))).unzip();
+    Cells { n, cells: Matrix::read(table, n).rows.concat(), tags, grades }
 }
 
 fn printed_cells() -> Cells {
@@ -202,6 +220,29 @@ pub fn flipping(
     wrong.in_buffer(buffer)
 }
 
+/// A library that changes an outcome which says that records, or pack's fragments, were looked at.
+pub fn of_records(
+    service: Service,
+    change: impl Fn(&Call, haplotypes::Outcome) -> Option<haplotypes::Outcome> + Sync + 'static,
+) -> Wrong {
+    Wrong::outcome(service, move |call, outcome, before| {
+        let looked_at = matches!(outcome, Accepted(_) | Refused(4..=9 | 13 | 17, _));
+        if let Some(other) = looked_at.then(|| change(call, *outcome)).flatten() {
+            *outcome = other;
+            call.lent = before;
+        }
+    })
+}
+
+pub fn refused_by(refusal: Refusal) -> haplotypes::Outcome {
+    Refused(refusal.number as u8, refusal.place)
+}
+
+/// What a service fills or borrows.
+pub fn written(service: Service) -> impl Iterator<Item = Buffer> {
+    service.buffers().into_iter().filter(move |buffer| !service.reads().contains(buffer))
+}
+
 pub fn is_refusal(returned: &Returned) -> bool {
     matches!(returned, Returned::Outcome(Refused(..)))
 }
@@ -310,16 +351,19 @@ fn wrong_parts() -> Vec<Wrong> {
     others.map(spoiled).into()
 }
 
-/// A cell, a tag and a byte of a record that change on the way there or back, both ways round, without holes and with them;
-/// far mates that get lost; and records without calls that pack takes, or refuses in another way.
+/// A cell, a tag, a grade and a byte of a record that change on the way there or back, both ways round, without holes and with
+/// them; far mates and grades that get lost; and records without calls that pack takes, or refuses in another way.
 fn wrong_round_trips() -> Result<usize, String> {
-    let places = [(Service::Unpack, Buffer::Cells), (Service::Unpack, Buffer::Tags), (Service::Pack, Buffer::Table)];
-    let flipped = places.map(|(service, buffer)| flipping(service, buffer, FIRST, |returned| !is_refusal(returned)));
+    let unpacked = [Buffer::Cells, Buffer::Tags, Buffer::Grades].map(|buffer| (Service::Unpack, buffer));
+    let places = unpacked.into_iter().chain([(Service::Pack, Buffer::Table)]);
+    let flipped: Vec<Wrong> =
+        places.map(|(service, buffer)| flipping(service, buffer, FIRST, |returned| !is_refusal(returned))).collect();
     let lost = [wrong_gaps::near_cells(), wrong_gaps::near_records()];
     let gapless = trips_noticed(&printed_table(), &printed_cells(), &flipped)?;
     let gapped = [&flipped[..], &lost].map(|wrong| trips_noticed(&gapped_triangle(), &triangle_cells(), wrong));
     let uncalled = table_trips_noticed(&stored_table(), &wrong_uncalled::of_round_trip())?;
-    gapped.into_iter().try_fold(gapless + uncalled, |sum, noticed| Ok(sum + noticed?))
+    let graded = trips_noticed(&graded_table(), &wrong_grades::graded_cells(), &wrong_grades::of_round_trip())?;
+    gapped.into_iter().try_fold(gapless + uncalled + graded, |sum, noticed| Ok(sum + noticed?))
 }
 
 /// The number of round trips by wrong libraries, each noticed.

@@ -2,16 +2,14 @@
 //! place, with a buffer that is written all the same; and a find that asks for order.
 
 use super::unordered_triangle;
-use super::wrong_libraries::{flipping, Wrong, FIRST};
+use super::wrong_libraries::{both, flipping, fragments, of_records, refused_by, written, Record, Wrong, FIRST};
 use crate::generate::Cells;
 use crate::library::{Call, Returned};
 use crate::order::{falls, keys, keys_of_table, other_fault, Other, OTHERS};
-use crate::record::{column_count, graded, record, span, tag, whole_records, Matrix, A, B, HOLE, RECORD};
+use crate::record::{graded, record, span, Matrix, A, B, HOLE, RECORD};
 use crate::rules::{too_deep, Refusal};
 use crate::service::Service;
 use haplotypes::Outcome::{self, Accepted, Refused};
-
-type Record = [u8; RECORD];
 
 /// Starts and tags rise, and by the lowest byte too: every comparison says that this is in order.
 pub fn plain_tables() -> Vec<(Vec<u8>, Cells)> {
@@ -24,16 +22,6 @@ pub fn tables() -> Vec<(Vec<u8>, Cells)> {
     all.extend(out_of_order().iter().map(|records| both(records)));
     all.extend(with_another_fault().map(|(records, cells)| (records.concat(), cells)));
     all
-}
-
-/// A table and its fragments for pack.
-fn both(records: &[Record]) -> (Vec<u8>, Cells) {
-    (records.concat(), fragments(&records.concat()))
-}
-
-fn fragments(table: &[u8]) -> Cells {
-    let n = column_count(table);
-    Cells::ungraded(n, Matrix::read(table, n).rows.concat(), whole_records(table).map(tag).collect())
 }
 
 /// The fragments with calls, as pack takes no others.
@@ -108,22 +96,11 @@ pub fn all() -> Vec<Wrong> {
     all
 }
 
-/// The rules of a record, or of pack's fragments, that come before 13, but for 17 (`wrong_uncalled`).
+/// The rules of a record, or of pack's fragments, that come before 13, but for 17 (`wrong_uncalled`) and pack's 5 (`wrong_grades`).
 fn rules_before_13(service: Service) -> impl Iterator<Item = u8> {
     let of_table = move |rule: &u8| *rule != 8 || !service.takes_holes();
     let of_pack = |rule: &u8| matches!(rule, 4 | 6 | 9);
     (4..=9).filter(move |rule| if service == Service::Pack { of_pack(rule) } else { of_table(rule) })
-}
-
-/// A library that changes an outcome which says that records were looked at.
-fn of_records(service: Service, change: impl Fn(&Call, Outcome) -> Option<Outcome> + Sync + 'static) -> Wrong {
-    Wrong::outcome(service, move |call, outcome, before| {
-        let looked_at = matches!(outcome, Accepted(_) | Refused(4..=9 | 13, _));
-        if let Some(other) = looked_at.then(|| change(call, *outcome)).flatten() {
-            *outcome = other;
-            call.lent = before;
-        }
-    })
 }
 
 /// Out of order by the rule, and not by another comparison.
@@ -138,7 +115,7 @@ fn missing(service: Service, other: &'static Other) -> Wrong {
 fn judged(call: &Call, other: &Other) -> Outcome {
     let refused = other.first(&keys(call)).map(|place| Refusal { number: 13, place });
     let first = other_fault(call).into_iter().chain(refused).min_by_key(|refusal| refusal.place);
-    first.map_or(Accepted(0), |refusal| Refused(refusal.number as u8, refusal.place))
+    first.map_or(Accepted(0), refused_by)
 }
 
 /// In order by the rule, and not by another comparison.
@@ -162,7 +139,7 @@ fn before_rule(service: Service, rule: u8) -> Wrong {
 /// Rule 13 after the other rules of all records.
 fn after_all(service: Service) -> Wrong {
     of_records(service, |call, outcome| match outcome {
-        Refused(13, _) => other_fault(call).map(|refusal| Refused(refusal.number as u8, refusal.place)),
+        Refused(13, _) => other_fault(call).map(refused_by),
         _ => None,
     })
 }
@@ -202,17 +179,14 @@ fn at_last(service: Service) -> Wrong {
 
 /// What a service fills or borrows, written before 13 is found.
 fn writing(service: Service) -> Vec<Wrong> {
-    let written = service.buffers().into_iter().filter(move |buffer| !service.reads().contains(buffer));
     let out_of_order = |returned: &Returned| matches!(returned, Returned::Outcome(Refused(13, _)));
-    written.map(|buffer| flipping(service, buffer, FIRST, out_of_order)).collect()
+    written(service).map(|buffer| flipping(service, buffer, FIRST, out_of_order)).collect()
 }
 
 /// Rule 12 before 13.
 fn after_depth() -> Wrong {
     of_records(Service::Corrections, |call, outcome| match (outcome, other_fault(call)) {
-        (Refused(13, _), None) => {
-            too_deep(&Matrix::read(call.lent.table.lent(), call.number)).map(|refusal| Refused(12, refusal.place))
-        }
+        (Refused(13, _), None) => too_deep(&Matrix::read(call.lent.table.lent(), call.number)).map(refused_by),
         _ => None,
     })
 }

@@ -2,7 +2,7 @@
 //! among the rules or at another place, or writes all the same; and another service that refuses them.
 
 use super::stored_table;
-use super::wrong_libraries::{flipping, Wrong, FIRST};
+use super::wrong_libraries::{flipping, refused_by, Wrong, FIRST};
 use crate::generate::Cells;
 use crate::library::{Call, Returned};
 use crate::record::{first_without_calls, packed, record, span, A, B, HOLE};
@@ -109,10 +109,6 @@ fn of_pack(change: impl Fn(&Call, Outcome) -> Option<Outcome> + Sync + 'static) 
 
 fn first_uncalled(call: &Call) -> Option<usize> {
     places(&call.matrix().rows).next()
-}
-
-fn refused_by(refusal: Refusal) -> Outcome {
-    Refused(refusal.number as u8, refusal.place)
 }
 
 /// Is a fragment at a place, without calls, taken?
