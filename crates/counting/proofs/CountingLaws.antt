@@ -26,8 +26,8 @@ use Rattle.conflicts.proofs.SideLaws.{kept-all}
 use Rattle.matrix.specs.Algorithm.Cells.{tableCells}
 use Rattle.matrix.specs.Algorithm.Matrix.{matrixGrid}
 use Rattle.matrix.proofs.TableLaws.{cells-same}
-use Rattle.masks.specs.declared.places.Places.{Places}
-use Rattle.masks.specs.Algorithm.Places.{placesWhere}
+use Rattle.places.specs.declared.places.Places.{Places}
+use Rattle.places.specs.Algorithm.Places.{placesWhere}
 use Rattle.masks.specs.Algorithm.Masks.{maskWords}
 use Rattle.masks.specs.Algorithm.Pairs.{pairMatrix, Compared}
 use Rattle.masks.proofs.PairLaws.{matrix-at, number-kept}

@@ -1,7 +1,7 @@
 // What the programme asks of the fragments of a cell matrix, 128 cells to a fragment: reaches and agreement (paper 001, section 5.2).
-use masks::Places;
-use masks::conflict_count;
 use masks::line_at;
+use places::Places;
+use places::conflict_count;
 use writing::calls_end;
 ghost use mathlib.Core.Path.{_≡_};
 ghost use Prim.Native.Nat.{ℕ, _+_, _<_, _≤_};

@@ -1,4 +1,2 @@
-pub mod WordLaws
-pub mod PlaceLaws
 pub mod LineLaws
 pub mod PairLaws

@@ -13,13 +13,13 @@ use Rattle.conflicts.specs.Choice.{keepAll}
 use Rattle.conflicts.specs.Grid.{Grid, callsConflict, conflictOn}
 use Rattle.conflicts.specs.Counts.{conflictCount}
 use Rattle.conflicts.proofs.CountLaws.{all-counted}
-use Rattle.masks.specs.declared.lines.Line.{Line}
-use Rattle.masks.specs.declared.places.Places.{Places}
-use Rattle.masks.specs.Algorithm.Words.{wordOf, halfWord, InWord}
-use Rattle.masks.specs.Algorithm.Places.{anywhere, placesWhere, bothOf, eitherOf, size, conflictPlaces, agreePlaces, conflictSize}
+use Rattle.places.specs.declared.lines.Line.{Line}
+use Rattle.places.specs.declared.places.Places.{Places}
+use Rattle.places.specs.Algorithm.Words.{wordOf, halfWord, InWord}
+use Rattle.places.specs.Algorithm.Places.{anywhere, placesWhere, bothOf, eitherOf, size, conflictPlaces, agreePlaces, conflictSize}
 use Rattle.masks.specs.Algorithm.Masks.{hasLetter, lineOf, maskWords, lineAt, Masks}
-use Rattle.masks.proofs.WordLaws.{word-wider, word-none}
-use Rattle.masks.proofs.PlaceLaws.{places, where-ext, upTo, both-below, either-below, some-below, size-below}
+use Rattle.places.proofs.WordLaws.{word-wider, word-none}
+use Rattle.places.proofs.PlaceLaws.{places, where-ext, upTo, both-below, either-below, some-below, size-below}
 
 -- ---- the words of a line
 

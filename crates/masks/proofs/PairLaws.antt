@@ -17,12 +17,12 @@ use Rattle.conflicts.specs.Grid.{Grid}
 use Rattle.conflicts.specs.Counts.{conflictCount}
 use Rattle.conflicts.specs.Blocks.{linked}
 use Rattle.conflicts.proofs.CountLaws.{kept-counted}
-use Rattle.masks.specs.declared.places.Places.{Places}
-use Rattle.masks.specs.declared.lines.Line.{Line}
-use Rattle.masks.specs.Algorithm.Places.{bothOf, eitherOf, size, conflictPlaces, conflictSize}
+use Rattle.places.specs.declared.places.Places.{Places}
+use Rattle.places.specs.declared.lines.Line.{Line}
+use Rattle.places.specs.Algorithm.Places.{bothOf, eitherOf, size, conflictPlaces, conflictSize}
 use Rattle.masks.specs.Algorithm.Masks.{lineAt}
 use Rattle.masks.specs.Algorithm.Pairs.{pairNumber, Numbered, pairMatrix, Compared}
-use Rattle.masks.proofs.PlaceLaws.{both-comm, either-comm}
+use Rattle.places.proofs.PlaceLaws.{both-comm, either-comm}
 use Rattle.masks.proofs.LineLaws.{conflicts-where}
 
 -- ---- keep marks of two fragments

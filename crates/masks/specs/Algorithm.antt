@@ -1,4 +1,2 @@
-pub mod Words
-pub mod Places
 pub mod Masks
 pub mod Pairs

@@ -4,11 +4,11 @@ ghost use Prim.Native.Nat.{_+_, _<_, _≤_};
 ghost use lib.ListN.{length};
 ghost use Rattle.below.specs.Below.{_==_};
 ghost use Rattle.matrix.specs.Algorithm.Matrix.{matrixGrid};
-ghost use Rattle.masks.specs.Algorithm.Words.{wordOf, halfWord, InWord};
+ghost use Rattle.places.specs.Algorithm.Words.{wordOf, halfWord, InWord};
 ghost use Rattle.masks.specs.Algorithm.Masks.{hasLetter, maskWords, transposed, lineCell, lineGrid, lineAt};
-use crate::lines::Line;
-use crate::places::Places;
-use crate::places::with_bit;
+use places::Line;
+use places::Places;
+use places::with_bit;
 
 // A word of the places that have A, and one of those that have B.
 struct Letters {

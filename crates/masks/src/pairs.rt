@@ -3,9 +3,9 @@ ghost use mathlib.Core.Path.{_≡_};
 ghost use Prim.Native.Nat.{ℕ, _+_, _*_, _<_};
 ghost use lib.ListN.{length};
 ghost use Rattle.masks.specs.Algorithm.Pairs.{pairNumber, Numbered, pairMatrix};
-use crate::lines::conflict_count;
 use crate::masks::line_at;
-use crate::places::Places;
+use places::Places;
+use places::conflict_count;
 use records::byte;
 
 // On how many kept columns fragments i and j conflict, and 0 where one of them is removed.

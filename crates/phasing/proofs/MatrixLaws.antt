@@ -14,7 +14,7 @@ use Rattle.below.proofs.RowLaws.{tab-ext}
 use Rattle.conflicts.specs.Choice.{marked}
 use Rattle.conflicts.specs.Grid.{Grid}
 use Rattle.conflicts.specs.Blocks.{linked, block}
-use Rattle.masks.specs.declared.places.Places.{Places}
+use Rattle.places.specs.declared.places.Places.{Places}
 use Rattle.masks.specs.Algorithm.Pairs.{pairNumber, pairMatrix, Compared}
 use Rattle.masks.proofs.PairLaws.{number-back, number-marked, number-linked, matrix-length, matrix-at}
 use Rattle.components.specs.Algorithm.Components.{marks, Within, Links, State, lowests}

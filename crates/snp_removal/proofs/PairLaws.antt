@@ -11,9 +11,9 @@ use Rattle.below.specs.Below.{_==_, _and_, _or_, isnt}
 use Rattle.records.specs.Record.{isCall}
 use Rattle.below.proofs.BelowLaws.{both, left-of, right-of, or-left, or-right, or-cases, same-test, ==-eq, ==-refl, eq-==, isnt-==, ne-isnt, any-ext}
 use Rattle.conflicts.specs.Grid.{Grid, callsConflict}
-use Rattle.masks.specs.Algorithm.Places.{occupied, conflictPlaces, agreePlaces, bothKinds}
+use Rattle.places.specs.Algorithm.Places.{occupied, conflictPlaces, agreePlaces, bothKinds}
 use Rattle.masks.specs.Algorithm.Masks.{lineAt, transposed, Masks}
-use Rattle.masks.proofs.PlaceLaws.{occupied-below}
+use Rattle.places.proofs.PlaceLaws.{occupied-below}
 use Rattle.masks.proofs.LineLaws.{codesAgree, line-is, lines-agree, lines-conflict}
 use Rattle.snp_removal.specs.Algorithm.Columns.{callsBoth, columnsConflict, mayFollow, wordsFollow}
 use Rattle.snp_removal.proofs.ColumnLaws.{call-cases, sameLetter, otherLetter, conflict-kinds}

@@ -1,7 +1,7 @@
 // Columns of a cell matrix, 128 cells to a fragment: which are mixed, and which are in conflict (paper 001, section 3.1).
 use conflicts::Tally;
-use masks::columns_conflict;
 use masks::line_at;
+use places::columns_conflict;
 ghost use mathlib.Core.Path.{_≡_};
 ghost use Prim.Native.Nat.{ℕ, _+_, _*_, _<_, _≤_};
 ghost use lib.ListN.{length, getD};

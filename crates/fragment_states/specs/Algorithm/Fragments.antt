@@ -7,7 +7,7 @@ use Prim.Native.Nat.{ℕ, zero, suc, _<_}
 use Rattle.below.specs.Below.{_==_, nth}
 use Rattle.records.specs.Writing.{callsEnd}
 use Rattle.conflicts.specs.Grid.{Grid, agree}
-use Rattle.masks.specs.Algorithm.Places.{anywhere, placesWhere, conflictSize}
+use Rattle.places.specs.Algorithm.Places.{anywhere, placesWhere, conflictSize}
 use Rattle.masks.specs.Algorithm.Masks.{lineAt}
 
 -- one past the last called column of a fragment, 0 without calls

@@ -7,9 +7,9 @@ use Prim.Native.Nat.{ℕ, _+_, _*_, _/_, _%_, _≤_}
 use lib.ListN.{getD}
 use Rattle.below.specs.Below.{_==_, _<?_, _and_, tab, nth}
 use Rattle.conflicts.specs.Grid.{Grid}
-use Rattle.masks.specs.declared.lines.Line.{Line}
-use Rattle.masks.specs.Algorithm.Words.{halfWord}
-use Rattle.masks.specs.Algorithm.Places.{placesWhere}
+use Rattle.places.specs.declared.lines.Line.{Line}
+use Rattle.places.specs.Algorithm.Words.{halfWord}
+use Rattle.places.specs.Algorithm.Places.{placesWhere}
 
 -- fragment i has the letter at column c
 unfoldable pub hasLetter : Grid → ℕ → ℕ → ℕ → Bool

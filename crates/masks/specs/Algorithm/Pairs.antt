@@ -7,8 +7,8 @@ use lib.ListN.{length}
 use Rattle.below.specs.Below.{if_then_else_, _and_, tab, nth}
 use Rattle.conflicts.specs.Choice.{marked}
 use Rattle.conflicts.specs.Grid.{Grid}
-use Rattle.masks.specs.declared.places.Places.{Places}
-use Rattle.masks.specs.Algorithm.Places.{placesWhere, conflictSize}
+use Rattle.places.specs.declared.places.Places.{Places}
+use Rattle.places.specs.Algorithm.Places.{placesWhere, conflictSize}
 use Rattle.masks.specs.Algorithm.Masks.{Masks, lineAt}
 
 -- on how many kept columns fragments i and j conflict by their words, and 0 where one is removed

@@ -6,7 +6,7 @@ use mathlib.Core.List.{List}
 use Rattle.below.specs.Below.{_==_, _and_, _or_, isnt, anyBelow}
 use Rattle.records.specs.Record.{isCall}
 use Rattle.conflicts.specs.Grid.{Grid}
-use Rattle.masks.specs.Algorithm.Places.{bothKinds}
+use Rattle.places.specs.Algorithm.Places.{bothKinds}
 use Rattle.masks.specs.Algorithm.Masks.{lineAt}
 
 -- fragment f calls columns a and c

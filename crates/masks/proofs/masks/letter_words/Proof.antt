@@ -7,9 +7,9 @@ use mathlib.Core.Path.{_≡_, refl, ap}
 use Prim.Native.Nat.{ℕ, _+_, _-_, _≤_}
 use lib.Dec.{eqb}
 use Rattle.below.specs.Below.{_==_}
-use Rattle.masks.specs.Algorithm.Words.{wordOf}
+use Rattle.places.specs.Algorithm.Words.{wordOf}
 use Rattle.masks.specs.Algorithm.Masks.{lineCell}
-use Rattle.masks.proofs.WordLaws.{word-below, word-next, word-end}
+use Rattle.places.proofs.WordLaws.{word-below, word-next, word-end}
 use Rattle.masks.proofs.masks.letter_words.Statement.{statement}
 use Rattle.masks.proofs.masks.letter_words.Tie as tie
 

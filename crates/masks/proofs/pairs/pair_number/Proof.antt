@@ -4,7 +4,7 @@ use borrow.Author.Needs.{needs}
 use mathlib.Core.Path.{sym, ap₂, _∙_}
 use native.Mathlib.Omega.{arith}
 use Rattle.conflicts.specs.Choice.{marked}
-use Rattle.masks.specs.Algorithm.Places.{conflictSize}
+use Rattle.places.specs.Algorithm.Places.{conflictSize}
 use Rattle.masks.specs.Algorithm.Pairs.{pairNumber}
 use Rattle.masks.proofs.PairLaws.{first-removed, second-removed, both-kept}
 use Rattle.masks.proofs.pairs.pair_number.Statement.{statement}

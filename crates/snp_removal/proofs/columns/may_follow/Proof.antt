@@ -2,7 +2,7 @@
 -- Assumes nothing.
 use borrow.Author.Needs.{needs}
 use mathlib.Core.Path.{ap₂, _∙_}
-use Rattle.masks.specs.Algorithm.Places.{bothKinds}
+use Rattle.places.specs.Algorithm.Places.{bothKinds}
 use Rattle.snp_removal.proofs.PairLaws.{follows-none, follows-last}
 use Rattle.snp_removal.proofs.columns.may_follow.Statement.{statement}
 use Rattle.snp_removal.proofs.columns.may_follow.Tie as tie
