@@ -8,7 +8,7 @@ use Prim.Native.Nat.{ℕ, _*_, _≤_, _<_}
 use lib.Dec.{T}
 use lib.ListN.{length}
 use Rattle.below.specs.Below.{isnt, Lowest, tab, _<?_}
-use Rattle.records.specs.Table.{fragments, recordAt}
+use Rattle.fields.specs.Table.{fragments, recordAt}
 use Rattle.records.specs.Outcome.{Verdict, accepted}
 use Rattle.records.specs.Rules.{Rule, rule, decide, gapped, sizeRules, tableRules, tableVerdict}
 use Rattle.below.proofs.BelowLaws.{eq-==, T-isnt-isnt, le-isnt}

@@ -5,7 +5,7 @@ use mathlib.Core.List.{List, []}
 use Prim.Native.Nat.{ℕ, suc, _<_}
 use lib.ListN.{getD}
 use Rattle.below.specs.Below.{nth, if_then_else_, isnt, _==_, _≤?_, _and_}
-use Rattle.records.specs.Record.{isCall}
+use Rattle.fields.specs.Record.{isCall}
 use Rattle.below.proofs.BelowLaws.{all-ext, any-ext, sum-ext, count-ext}
 use Rattle.records.proofs.SoundLaws.{gap-same}
 use Rattle.conflicts.specs.Choice.{firstLeast, keepAll}

@@ -10,13 +10,13 @@ use lib.Dec.{T}
 use lib.ListN.{length, getD, take, drop, replicate, length-append, length-replicate, List·getD-append, drop-of-length-le}
 use lib.Seq.{getD-take, getD-drop, getD-append-add, length-take-le}
 use Rattle.below.specs.Below.{if_then_else_, _<?_, _≤?_, _and_, isnt, sumBelow, tab, concat}
-use Rattle.records.specs.Record.{littleEndian, startOf, spanOf, gradeOf, isCall, cellOf, codeAt}
-use Rattle.records.specs.Grades.{weightOf}
-use Rattle.records.specs.Table.{fragments, recordAt}
-use Rattle.records.specs.Writing.{cellBytes}
+use Rattle.fields.specs.Record.{littleEndian, startOf, spanOf, gradeOf, isCall, cellOf, codeAt}
+use Rattle.fields.specs.Grades.{weightOf}
+use Rattle.fields.specs.Table.{fragments, recordAt}
+use Rattle.fields.specs.Writing.{cellBytes}
 use Rattle.below.proofs.BelowLaws.{both, decided, isnt-isnt, not-both, if-ind, if-true, if-false, ==-eq, <?-lt, lt-<?, sum-ext, le-isnt}
-use Rattle.records.proofs.FieldLaws.{start-bytes, codeAt-in, codeAt-out}
-use Rattle.records.proofs.ByteLaws.{cell-past, cell-small, length-cellBytes, cellByte-at, code-written}
+use Rattle.fields.proofs.FieldLaws.{start-bytes, codeAt-in, codeAt-out}
+use Rattle.fields.proofs.ByteLaws.{cell-past, cell-small, length-cellBytes, cellByte-at, code-written}
 use Rattle.records.proofs.ExtentLaws.{call-range, no-call}
 use Rattle.below.proofs.RowLaws.{tab-ext, length-laid-out, row-laid}
 use Rattle.records.proofs.TableLaws.{fragments-of, length-whole, recordAt-row, length-recordAt, recordAt-bytes}

@@ -12,7 +12,7 @@ use lib.Dec.{T}
 use lib.ListN.{getD}
 use borrow.Author.Tests.{eq-eqb, ne-eqb}
 use Rattle.below.specs.Below.{nth, if_then_else_, _==_, _<?_, _and_, _or_, isnt, anyBelow, sumBelow}
-use Rattle.records.specs.Record.{isCall}
+use Rattle.fields.specs.Record.{isCall}
 use Rattle.below.proofs.BelowLaws.{both, left-of, right-of, or-left, or-right, or-cases, decided, T-isnt, isnt-isnt, same-test, if-ind, if-true, if-false, ==-eq, ==-refl, eq-==, isnt-==, ne-isnt, <?-lt, isnt-<?, anyBelow-at, anyBelow-of, sum-le, sum-ext, sum-swap}
 use Rattle.records.proofs.ExtentLaws.{call-range, call-of}
 use Rattle.conflicts.specs.Grid.{Grid, withCells, callsConflict, conflictOn}

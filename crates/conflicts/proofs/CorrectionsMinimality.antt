@@ -8,8 +8,8 @@ use native.Mathlib.Nat.{le-trans, le-of-eq}
 use lib.Dec.{T, lit≤}
 use lib.ListN.{length, getD, replicate, getD-replicate}
 use Rattle.below.specs.Below.{isnt, tab}
-use Rattle.records.specs.Record.{gradeOf, isCall}
-use Rattle.records.specs.Table.{fragments, recordAt}
+use Rattle.fields.specs.Record.{gradeOf, isCall}
+use Rattle.fields.specs.Table.{fragments, recordAt}
 use Rattle.records.specs.Outcome.{Verdict, accepted}
 use Rattle.below.proofs.BelowLaws.{if-true}
 use Rattle.below.proofs.RowLaws.{tab-ext, tab-again}
@@ -31,7 +31,7 @@ use Rattle.conflicts.proofs.CorrectedTableLaws.{corrected-hole, grid-co
 use Rattle.records.specs.Rules.{sizeRules}
 use Rattle.records.proofs.RuleLaws.{accepted-stage, accepted-count}
 use Rattle.records.proofs.AcceptedLaws.{whole-records}
-use Rattle.records.proofs.GradeLaws.{weight-range}
+use Rattle.fields.proofs.GradeLaws.{weight-range}
 
 -- ---- C's answer
 

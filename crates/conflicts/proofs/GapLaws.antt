@@ -6,7 +6,7 @@ use mathlib.Core.List.{List}
 use Prim.Native.Nat.{ℕ, _<_}
 use lib.Dec.{T}
 use Rattle.below.specs.Below.{isnt}
-use Rattle.records.specs.Table.{fragments, recordAt}
+use Rattle.fields.specs.Table.{fragments, recordAt}
 use Rattle.records.specs.Rules.{gapped}
 use Rattle.below.proofs.BelowLaws.{allBelow-of}
 use Rattle.records.proofs.PackLaws.{Sound}

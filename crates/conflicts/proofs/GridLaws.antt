@@ -8,7 +8,7 @@ use Prim.Native.Nat.{ℕ}
 use native.Mathlib.Omega.{arith}
 use lib.Dec.{T}
 use Rattle.below.specs.Below.{_==_, _and_, _or_}
-use Rattle.records.specs.Record.{isCall}
+use Rattle.fields.specs.Record.{isCall}
 use Rattle.below.proofs.BelowLaws.{both, left-of, right-of, or-left, or-right, or-cases, ==-eq, anyBelow-at, anyBelow-of, isnt-T, T-isnt}
 use Rattle.conflicts.specs.Grid.{Grid, callsConflict, conflict, agree}
 use Rattle.conflicts.specs.Minimality.{everything, TwoClasses, AgreeingClasses}

@@ -9,8 +9,8 @@ use native.Mathlib.Omega.{arith}
 use lib.Dec.{T}
 use lib.ListN.{length, replicate}
 use Rattle.below.specs.Below.{if_then_else_, isnt}
-use Rattle.records.specs.Table.{unpackedCells, unpackedTags, unpackedGrades}
-use Rattle.records.specs.Writing.{packed}
+use Rattle.fields.specs.Table.{unpackedCells, unpackedTags, unpackedGrades}
+use Rattle.fields.specs.Writing.{packed}
 use Rattle.records.specs.Outcome.{Verdict, accepted, refused}
 use Rattle.records.specs.Rules.{Rule, decide}
 use Rattle.records.proofs.RuleLaws.{accepted-count}

@@ -9,7 +9,7 @@ use lib.Dec.{T}
 use lib.ListN.{length, getD}
 use lib.Seq.{ext-getD}
 use Rattle.below.specs.Below.{if_then_else_, _==_, _<?_, _and_, _or_, isnt, anyBelow, firstBelow, tab, tabFrom, concat}
-use Rattle.records.specs.Record.{isCall}
+use Rattle.fields.specs.Record.{isCall}
 use Rattle.below.proofs.BelowLaws.{both, left-of, right-of, if-ind, if-true, if-false, ==-eq, ==-refl, lt-<?, anyBelow-at, anyBelow-of, length-tab, getD-tab}
 use Rattle.conflicts.specs.Choice.{first, marked}
 use Rattle.conflicts.specs.Grid.{Grid, callsConflict, conflictOn, conflictOnKept}

@@ -6,7 +6,7 @@ use mathlib.Core.List.{List, [], _++_}
 use Prim.Native.Nat.{ℕ, zero, suc, _<_}
 use lib.ListN.{getD}
 use Rattle.below.specs.Below.{if_then_else_, bit, tab, concat, firstBelow, _==_, _and_, _or_, isnt}
-use Rattle.records.specs.Record.{isCall}
+use Rattle.fields.specs.Record.{isCall}
 use Rattle.below.proofs.BelowLaws.{any-ext, all-ext}
 use Rattle.below.proofs.RowLaws.{tab-ext}
 use Rattle.conflicts.specs.Choice.{some, first, passing, firstLeast, marked, zeros, keepAll, keepLists}

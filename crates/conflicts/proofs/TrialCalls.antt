@@ -7,10 +7,10 @@ use Prim.Native.String.{String}
 use lib.Dec.{eqb}
 use lib.ListN.{length, replicate}
 use Rattle.below.specs.Below.{bit, if_then_else_, _==_, _<?_, _≤?_, _and_, _or_, isnt, allBelow, anyBelow, sumBelow, countBelow, firstBelow, endBelow, tab, tabFrom, concat}
-use Rattle.records.specs.Record.{littleEndian, tagOf, startOf, spanOf, gradeOf, isCall, cellOf, codeAt}
-use Rattle.records.specs.Grades.{weights, weightOf}
-use Rattle.records.specs.Table.{fragments, recordAt, partStart, partLength, position, unpackedCells, unpackedTags, unpackedGrades}
-use Rattle.records.specs.Writing.{bytesOf, cellBytes, callsEnd, callsStart, callsSpan, withoutCalls, cut, laidOut, recordOf, rowOf, packed}
+use Rattle.fields.specs.Record.{littleEndian, tagOf, startOf, spanOf, gradeOf, isCall, cellOf, codeAt}
+use Rattle.fields.specs.Grades.{weights, weightOf}
+use Rattle.fields.specs.Table.{fragments, recordAt, partStart, partLength, position, unpackedCells, unpackedTags, unpackedGrades}
+use Rattle.fields.specs.Writing.{bytesOf, cellBytes, callsEnd, callsStart, callsSpan, withoutCalls, cut, laidOut, recordOf, rowOf, packed}
 use Rattle.records.specs.Outcome.{Verdict, accepted}
 use Rattle.records.specs.Rules.{decide, outOfFrame, strayBits, unknownCall, openEnd, gapIn, gapped, tagTwice, precedes, outOfOrder, earlierRules, spanRules, recordRules, gaplessRules, tableRules, gaplessTableRules, sizeRules}
 use Rattle.conflicts.specs.Choice.{choices, passing, some, first, leastOf, firstLeast, marked, zeros, keepAll, keepLists}

@@ -10,8 +10,8 @@ use native.Mathlib.Omega.{arith}
 use lib.Dec.{T}
 use lib.ListN.{getD}
 use Rattle.below.specs.Below.{if_then_else_, _==_, _<?_, isnt, tab}
-use Rattle.records.specs.Record.{isCall}
-use Rattle.records.specs.Table.{fragments}
+use Rattle.fields.specs.Record.{isCall}
+use Rattle.fields.specs.Table.{fragments}
 use Rattle.below.proofs.BelowLaws.{decided, if-ind, ==-eq, isnt-==, ne-isnt, isnt-isnt, getD-tab}
 use Rattle.conflicts.specs.Choice.{marked}
 use Rattle.conflicts.specs.Grid.{Grid, gridOf, callsConflict, conflictOn}

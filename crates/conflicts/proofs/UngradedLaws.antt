@@ -9,9 +9,9 @@ use lib.ListN.{length, getD}
 use Rattle.below.specs.Below.{_==_, _<?_, _≤?_, _and_, _or_, isnt, anyBelow, tab, tabFrom, concat}
 use Rattle.below.proofs.BelowLaws.{is-false, T-isnt-isnt, eq-==, le-isnt}
 use Rattle.below.proofs.RowLaws.{tab-ext}
-use Rattle.records.specs.Record.{spanOf, gradeOf, cellOf}
-use Rattle.records.specs.Table.{fragments, recordAt, startAt, tagAt}
-use Rattle.records.specs.Writing.{recordOf, rowOf, packed}
+use Rattle.fields.specs.Record.{spanOf, gradeOf, cellOf}
+use Rattle.fields.specs.Table.{fragments, recordAt, startAt, tagAt}
+use Rattle.fields.specs.Writing.{recordOf, rowOf, packed}
 use Rattle.records.specs.Outcome.{Verdict}
 use Rattle.records.specs.Rules.{Rule, rule, decide, outOfFrame, strayBits, unknownCall, openEnd, gapped, earlierRules, spanRules, recordRules, gaplessRules, sizeRules, tableRules, gaplessTableRules}
 use Rattle.records.proofs.RuleLaws.{decide-none, decide-append}

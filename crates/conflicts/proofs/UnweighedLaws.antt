@@ -6,9 +6,9 @@ use mathlib.Core.List.{List}
 use Prim.Native.Nat.{ℕ, zero, suc, _≤_, _<_}
 use native.Mathlib.Omega.{arith}
 use Rattle.below.specs.Below.{if_then_else_, _==_, _and_, sumBelow, countBelow, tab, concat}
-use Rattle.records.specs.Record.{gradeOf}
-use Rattle.records.specs.Grades.{weights, weightOf}
-use Rattle.records.specs.Table.{fragments, recordAt}
+use Rattle.fields.specs.Record.{gradeOf}
+use Rattle.fields.specs.Grades.{weights, weightOf}
+use Rattle.fields.specs.Table.{fragments, recordAt}
 use Rattle.records.specs.Outcome.{accepted}
 use Rattle.records.specs.Rules.{decide}
 use Rattle.below.proofs.BelowLaws.{sum-ext}

@@ -4,9 +4,9 @@ use Prim.Native.Nat.{ℕ, _+_, _*_}
 use mathlib.Core.List.{List, _++_}
 use lib.ListN.{getD, take}
 use Rattle.below.specs.Below.{if_then_else_, _<?_, tab, concat}
-use Rattle.records.specs.Record.{startOf, spanOf, cellOf}
-use Rattle.records.specs.Table.{fragments, recordAt}
-use Rattle.records.specs.Writing.{cellBytes}
+use Rattle.fields.specs.Record.{startOf, spanOf, cellOf}
+use Rattle.fields.specs.Table.{fragments, recordAt}
+use Rattle.fields.specs.Writing.{cellBytes}
 use Rattle.conflicts.specs.Choice.{keepAll}
 use Rattle.conflicts.specs.Grid.{Grid, gridOf}
 use Rattle.conflicts.specs.Sides.{firstSides}

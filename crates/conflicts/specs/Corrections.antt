@@ -5,7 +5,7 @@ use mathlib.Core.Bool.{Bool}
 use mathlib.Core.List.{List, []}
 use lib.ListN.{getD}
 use Rattle.below.specs.Below.{nth, if_then_else_, _==_, _<?_, _and_, isnt, sumBelow}
-use Rattle.records.specs.Record.{isCall}
+use Rattle.fields.specs.Record.{isCall}
 use Rattle.conflicts.specs.Choice.{firstLeast, keepAll}
 use Rattle.conflicts.specs.Grid.{Grid, withCells}
 use Rattle.conflicts.specs.Sides.{sideLists}

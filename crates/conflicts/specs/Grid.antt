@@ -4,9 +4,9 @@ use Prim.Native.Nat.{ℕ}
 use mathlib.Core.Bool.{Bool}
 use mathlib.Core.List.{List}
 use Rattle.below.specs.Below.{_==_, _≤?_, _and_, _or_, isnt, allBelow, anyBelow, countBelow}
-use Rattle.records.specs.Record.{gradeOf, isCall, codeAt}
-use Rattle.records.specs.Grades.{weightOf}
-use Rattle.records.specs.Table.{fragments, recordAt}
+use Rattle.fields.specs.Record.{gradeOf, isCall, codeAt}
+use Rattle.fields.specs.Grades.{weightOf}
+use Rattle.fields.specs.Table.{fragments, recordAt}
 use Rattle.records.specs.Rules.{gapIn}
 use Rattle.conflicts.specs.Choice.{marked}
 

@@ -4,7 +4,7 @@ use Prim.Native.Nat.{ℕ, suc}
 use mathlib.Core.List.{List}
 use lib.ListN.{getD}
 use Rattle.below.specs.Below.{if_then_else_, _==_, tab, concat}
-use Rattle.records.specs.Record.{isCall}
+use Rattle.fields.specs.Record.{isCall}
 use Rattle.conflicts.specs.Choice.{first, marked}
 use Rattle.conflicts.specs.Grid.{Grid}
 

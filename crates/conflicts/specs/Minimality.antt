@@ -8,8 +8,8 @@ use Prim.Native.Nat.{ℕ, _+_, _≤_, _<_}
 use lib.Dec.{T}
 use lib.ListN.{length, getD}
 use Rattle.below.specs.Below.{bit, _==_, _<?_, _and_, isnt, countBelow, tab}
-use Rattle.records.specs.Record.{startOf, spanOf, isCall, cellOf}
-use Rattle.records.specs.Table.{fragments, recordAt}
+use Rattle.fields.specs.Record.{startOf, spanOf, isCall, cellOf}
+use Rattle.fields.specs.Table.{fragments, recordAt}
 use Rattle.conflicts.specs.Grid.{Grid, conflictOn, agree, gridOf}
 use Rattle.conflicts.specs.Corrections.{cost, sideLetter, differs, cellTotal, turned}
 use Rattle.conflicts.specs.Answer.{answerSize, keepMarkIn, sideIn}

@@ -6,7 +6,7 @@ use mathlib.Core.List.{List}
 use Prim.Native.Nat.{ℕ, suc, _≤_, _<_}
 use lib.Dec.{T}
 use Rattle.below.specs.Below.{_==_, isnt, tab}
-use Rattle.records.specs.Record.{isCall}
+use Rattle.fields.specs.Record.{isCall}
 use Rattle.conflicts.specs.Grid.{Grid}
 use Rattle.conflicts.specs.Blocks.{linked, Chain}
 use Rattle.conflicts.specs.Answer.{keepMarkIn, haplotypeIn, sideIn, blockIn}

@@ -6,7 +6,7 @@ use mathlib.Core.List.{List}
 use Prim.Native.Nat.{ℕ, _*_, _≤_, _<_}
 use lib.ListN.{length}
 use Rattle.below.specs.Below.{Lowest, _<?_}
-use Rattle.records.specs.Table.{fragments, recordAt}
+use Rattle.fields.specs.Table.{fragments, recordAt}
 use Rattle.records.specs.Outcome.{Verdict, accepted, refused}
 use Rattle.records.specs.Rules.{gapped}
 use Rattle.conflicts.specs.Grid.{Grid, gridOf, coverage}

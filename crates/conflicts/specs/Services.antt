@@ -4,8 +4,8 @@ use Prim.Native.Nat.{ℕ, zero, suc, _*_}
 use mathlib.Core.List.{List, [], _∷_, _++_}
 use lib.ListN.{length, getD, replicate}
 use Rattle.below.specs.Below.{if_then_else_, _==_, _<?_, _or_, isnt, anyBelow, tab, concat}
-use Rattle.records.specs.Table.{fragments, partStart, partLength, position, unpackedCells, unpackedTags, unpackedGrades}
-use Rattle.records.specs.Writing.{callsStart, callsSpan, withoutCalls, rowOf, packed}
+use Rattle.fields.specs.Table.{fragments, partStart, partLength, position, unpackedCells, unpackedTags, unpackedGrades}
+use Rattle.fields.specs.Writing.{callsStart, callsSpan, withoutCalls, rowOf, packed}
 use Rattle.records.specs.Outcome.{Verdict, accepted, refused}
 use Rattle.records.specs.Rules.{Rule, rule, decide, earlierRules, sizeRules, tableRules, gaplessTableRules}
 use Rattle.conflicts.specs.Choice.{zeros, keepAll}

@@ -6,9 +6,9 @@ use mathlib.Core.List.{List, [], _∷_, _++_}
 use Prim.Native.Nat.{ℕ, _*_, _<_}
 use lib.ListN.{length, getD}
 use Rattle.below.specs.Below.{_==_, _<?_, _≤?_, _and_, _or_, isnt, anyBelow, tab, concat}
-use Rattle.records.specs.Record.{spanOf, gradeOf, cellOf}
-use Rattle.records.specs.Table.{fragments, recordAt, startAt, tagAt}
-use Rattle.records.specs.Writing.{recordOf, rowOf, packed}
+use Rattle.fields.specs.Record.{spanOf, gradeOf, cellOf}
+use Rattle.fields.specs.Table.{fragments, recordAt, startAt, tagAt}
+use Rattle.fields.specs.Writing.{recordOf, rowOf, packed}
 use Rattle.records.specs.Outcome.{Verdict}
 use Rattle.records.specs.Rules.{Rule, rule, decide, outOfFrame, unknownCall, openEnd, gapped, earlierRules, sizeRules}
 use Rattle.conflicts.specs.Grid.{gridOf}

@@ -8,7 +8,7 @@ use native.Mathlib.Omega.{arith}
 use lib.Dec.{lit≤}
 use lib.ListN.{length, getD, replicate}
 use Rattle.below.specs.Below.{nth, concat, _<?_}
-use Rattle.records.specs.Table.{fragments, recordAt}
+use Rattle.fields.specs.Table.{fragments, recordAt}
 use Rattle.records.specs.Outcome.{Verdict, accepted, refused}
 use Rattle.records.specs.Rules.{decide}
 use Rattle.below.proofs.BelowLaws.{length-tab}

@@ -9,7 +9,7 @@ use Rattle.records.specs.Outcome.{Verdict, accepted, refused}
 use Rattle.records.specs.Rules.{sizeRules}
 use Rattle.records.proofs.RuleLaws.{accepted-stage}
 use Rattle.records.proofs.AcceptedLaws.{few-columns}
-use Rattle.records.proofs.GradeLaws.{weight-range}
+use Rattle.fields.proofs.GradeLaws.{weight-range}
 use Rattle.conflicts.specs.Grid.{gridOf}
 use Rattle.conflicts.specs.Corrections.{cost, leastCostSides}
 use Rattle.conflicts.specs.Served.{NoneDeep}

@@ -9,8 +9,8 @@ use lib.ListN.{length}
 use Rattle.below.specs.Below.{_and_, tab, concat, nth}
 use Rattle.below.proofs.BelowLaws.{is-true, is-false, eq-==, ne-isnt, T-isnt-isnt, count-ext}
 use Rattle.below.proofs.RowLaws.{tab-ext, length-flat, flat-at}
-use Rattle.records.specs.Record.{codeAt}
-use Rattle.records.specs.Table.{fragments, recordAt}
+use Rattle.fields.specs.Record.{codeAt}
+use Rattle.fields.specs.Table.{fragments, recordAt}
 use Rattle.records.specs.Outcome.{Verdict, accepted, refused}
 use Rattle.records.specs.Rules.{Rule, decide, sizeRules, tableRules}
 use Rattle.records.specs.Algorithm.Kept.{SizesKept}

@@ -4,7 +4,7 @@ use mathlib.Core.Path.{_≡_}
 use mathlib.Core.List.{List}
 use Prim.Native.Nat.{ℕ}
 use Rattle.records.specs.Outcome.{Verdict, accepted}
-use Rattle.records.specs.Table.{fragments}
+use Rattle.fields.specs.Table.{fragments}
 use Rattle.conflicts.specs.Grid.{gridOf}
 use Rattle.conflicts.specs.Counts.{CountsTold}
 

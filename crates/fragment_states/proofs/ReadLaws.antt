@@ -8,8 +8,8 @@ use native.Mathlib.Omega.{arith}
 use lib.ListN.{length, getD, take, drop, length-drop}
 use lib.Seq.{getD-take, getD-drop, length-take-le}
 use Rattle.below.specs.Below.{if_then_else_, bit, isnt, endBelow, _==_, _<?_}
-use Rattle.records.specs.Record.{isCall}
-use Rattle.records.specs.Writing.{callsEnd, codesOf}
+use Rattle.fields.specs.Record.{isCall}
+use Rattle.fields.specs.Writing.{callsEnd, codesOf}
 use Rattle.below.proofs.SearchLaws.{==-true, ==-false, <?-true, <?-false}
 use Rattle.records.proofs.ExtentLaws.{endBelow-le}
 use Rattle.conflicts.specs.Grid.{Grid, agree}

@@ -10,13 +10,13 @@ use native.Mathlib.Omega.{arith}
 use lib.Arith.{digits-div, digits-mod}
 use lib.ListN.{length}
 use Rattle.below.specs.Below.{if_then_else_, _<?_, concat, tab}
-use Rattle.records.specs.Table.{fragments, partStart, position}
+use Rattle.fields.specs.Table.{fragments, partStart, position}
 use Rattle.records.specs.declared.Outcome.{Outcome}
 use Rattle.records.specs.declared.Outcome.the-variants.{Refused}
 use Rattle.records.specs.Outcome.{Verdict, accepted, refused, outcomeOf}
 use Rattle.records.specs.Rules.{Rule, rule, decide, earlierRules, spanRules, recordRules, gaplessRules, tableRules, gaplessTableRules, sizeRules}
 use Rattle.below.proofs.BelowLaws.{if-ind, if-true, if-false, lt-<?, le-isnt, sum-most, count-bound}
-use Rattle.records.proofs.GradeLaws.{weight-range}
+use Rattle.fields.proofs.GradeLaws.{weight-range}
 use Rattle.below.proofs.MemberLaws.{concat-at, tab-at}
 use Rattle.records.proofs.RuleLaws.{decide-append, decide-accepted, decide-refused}
 use Rattle.records.proofs.AcceptedLaws.{few-columns, few-fragments}

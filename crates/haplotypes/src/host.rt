@@ -6,10 +6,10 @@ ghost use Rattle.conflicts.specs.Services.{unpackLeaves, packLeaves, findLeaves
 ghost use Rattle.conflicts.specs.Host.{hostNumber, hostCode, hostOutcome, hostRead, HostFits};
 use correcting::least_corrections;
 use counting::conflict_counts;
+use fields::position_of;
 use packing::pack;
 use packing::unpack;
 use records::Outcome;
-use records::position_of;
 use removals::least_fragment_removal;
 use removals::least_snp_removal;
 use verdicts::check;

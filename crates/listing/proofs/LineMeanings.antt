@@ -9,7 +9,7 @@ use native.Mathlib.Nat.{le-of-eq}
 use native.Mathlib.Omega.{arith}
 use lib.ListN.{length, getD}
 use Rattle.records.specs.Outcome.{Verdict, accepted}
-use Rattle.records.specs.Table.{columnCount}
+use Rattle.fields.specs.Table.{columnCount}
 use Rattle.records.specs.Rules.{tableVerdict}
 use Rattle.conflicts.specs.Grid.{gridOf}
 use Rattle.conflicts.specs.Answer.{answerSize}

@@ -10,7 +10,7 @@ use lib.ListN.{length, take, drop, length-append, length-replicate}
 use lib.Seq.{take-at}
 use Rattle.below.specs.Below.{_==_}
 use Rattle.records.specs.Outcome.{Verdict, accepted}
-use Rattle.records.specs.Table.{fragments, columnCount}
+use Rattle.fields.specs.Table.{fragments, columnCount}
 use Rattle.records.specs.Rules.{sizeRules, tableRules, tableVerdict}
 use Rattle.below.proofs.BelowLaws.{isnt-<?}
 use Rattle.records.proofs.RuleLaws.{unbroken, accepted-count}

@@ -8,10 +8,10 @@ use Prim.Native.Char.{code}
 use Prim.Native.String.{String}
 use lib.Dec.{eqb}
 use Rattle.below.specs.Below.{if_then_else_, _==_, _<?_, _≤?_, _and_, _or_, isnt, allBelow, anyBelow, sumBelow, countBelow, firstBelow, endBelow, maxBelow, tab, tabFrom, concat}
-use Rattle.records.specs.Record.{littleEndian, tagOf, startOf, spanOf, gradeOf, isCall, cellOf, codeAt}
-use Rattle.records.specs.Grades.{weights, weightOf}
-use Rattle.records.specs.Table.{fragments, recordAt, columnCount}
-use Rattle.records.specs.Writing.{bytesOf, cellBytes}
+use Rattle.fields.specs.Record.{littleEndian, tagOf, startOf, spanOf, gradeOf, isCall, cellOf, codeAt}
+use Rattle.fields.specs.Grades.{weights, weightOf}
+use Rattle.fields.specs.Table.{fragments, recordAt, columnCount}
+use Rattle.fields.specs.Writing.{bytesOf, cellBytes}
 use Rattle.records.specs.Outcome.{refused}
 use Rattle.records.specs.Rules.{decide, outOfFrame, strayBits, unknownCall, openEnd, gapIn, gapped, tagTwice, precedes, outOfOrder, earlierRules, spanRules, recordRules, gaplessRules, tableRules, gaplessTableRules, sizeRules, tableVerdict}
 use Rattle.records.proofs.TrialTools.{sameList, filled, made}

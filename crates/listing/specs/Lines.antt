@@ -7,7 +7,7 @@ use Prim.Native.Nat.{ℕ, _*_, _<_}
 use Prim.Native.Char.{Char, code}
 use lib.ListN.{length, getD}
 use Rattle.records.specs.Outcome.{accepted, refused}
-use Rattle.records.specs.Table.{columnCount}
+use Rattle.fields.specs.Table.{columnCount}
 use Rattle.records.specs.Rules.{tableVerdict}
 use Rattle.conflicts.specs.Grid.{gridOf}
 use Rattle.conflicts.specs.Answer.{answerSize}

@@ -6,7 +6,7 @@ use mathlib.Core.List.{List, [], _∷_, _++_}
 use lib.ListN.{getD, replicate}
 use Rattle.below.specs.Below.{if_then_else_, _==_, _<?_, tab}
 use Rattle.records.specs.Outcome.{Verdict, accepted, refused}
-use Rattle.records.specs.Table.{columnCount}
+use Rattle.fields.specs.Table.{columnCount}
 use Rattle.records.specs.Rules.{tableVerdict}
 use Rattle.conflicts.specs.Answer.{answerSize, keepMarkIn, haplotypeIn, sideIn, blockIn}
 use Rattle.conflicts.specs.Services.{checkLeaves, snpRemovalLeaves, fragmentRemovalLeaves, correctionsLeaves}

@@ -9,7 +9,7 @@ ghost use Rattle.listing.specs.Algorithm.Appended.{Appended};
 ghost use Rattle.listing.specs.Listing.{signOf, blockWord, joined, field};
 use crate::text::put_byte;
 use crate::text::put_number;
-use records::byte;
+use fields::byte;
 
 // The signs of count codes, from byte `from` on.
 fn put_signs(

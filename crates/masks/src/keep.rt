@@ -4,9 +4,9 @@ ghost use Prim.Native.Nat.{_+_, _≤_};
 ghost use Rattle.conflicts.specs.Choice.{marked};
 ghost use Rattle.places.specs.Algorithm.Words.{wordOf};
 ghost use Rattle.places.specs.Algorithm.Places.{placesWhere};
+use fields::byte;
 use places::Places;
 use places::with_bit;
-use records::byte;
 
 // The marks of the 64 places from one on.
 fn mark_word(marks: &[u8], start: usize) -> u64

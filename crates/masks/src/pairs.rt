@@ -4,9 +4,9 @@ ghost use Prim.Native.Nat.{ℕ, _+_, _*_, _<_};
 ghost use lib.ListN.{length};
 ghost use Rattle.masks.specs.Algorithm.Pairs.{pairNumber, Numbered, pairMatrix};
 use crate::masks::line_at;
+use fields::byte;
 use places::Places;
 use places::conflict_count;
-use records::byte;
 
 // On how many kept columns fragments i and j conflict, and 0 where one of them is removed.
 fn pair_number(masks: &[u64], keep: Places, frags: &[u8], i: usize, j: usize) -> u8

@@ -12,11 +12,11 @@ use Rattle.below.specs.Below.{if_then_else_, _<?_, _and_}
 use Rattle.below.proofs.BelowLaws.{if-ind, if-true, if-false, lt-<?, le-isnt, length-tab}
 use Rattle.below.proofs.SearchLaws.{<?-true, <?-false}
 use Rattle.below.proofs.TestLaws.{and-true, if-first}
-use Rattle.records.specs.Record.{gradeOf, codeAt}
-use Rattle.records.specs.Grades.{weights, weightOf}
-use Rattle.records.specs.Table.{fragments, recordAt, partStart, partLength, Part}
-use Rattle.records.proofs.FieldLaws.{codeAt-nil}
-use Rattle.records.proofs.PartLaws.{part-record, part-past}
+use Rattle.fields.specs.Record.{gradeOf, codeAt}
+use Rattle.fields.specs.Grades.{weights, weightOf}
+use Rattle.fields.specs.Table.{fragments, recordAt, partStart, partLength, Part}
+use Rattle.fields.proofs.FieldLaws.{codeAt-nil}
+use Rattle.fields.proofs.PartLaws.{part-record, part-past}
 use Rattle.matrix.specs.Algorithm.Cells.{tableCells, tableWeight}
 
 pub length-cells : (n : ℕ) (table : List ℕ) → length (tableCells n table) ≡ 16384

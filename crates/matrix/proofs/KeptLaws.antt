@@ -6,9 +6,9 @@ use Prim.Native.Nat.{ℕ, _≤_, _<_}
 use native.Mathlib.Omega.{arith}
 use lib.Dec.{T}
 use lib.ListN.{length}
-use Rattle.records.specs.Record.{codeAt}
-use Rattle.records.specs.Table.{fragments, recordAt, startAt, tagAt}
-use Rattle.records.specs.Writing.{callsStart}
+use Rattle.fields.specs.Record.{codeAt}
+use Rattle.fields.specs.Table.{fragments, recordAt, startAt, tagAt}
+use Rattle.fields.specs.Writing.{callsStart}
 use Rattle.records.specs.Algorithm.Kept.{SizesKept, RecordsKept, GaplessKept}
 use Rattle.records.proofs.AcceptedLaws.{accepted-sound, accepted-earlier, gapless-records, accepted-gapless, sized-count, sized-n, sized-m}
 use Rattle.records.proofs.OrderLaws.{starts-rise}

@@ -8,11 +8,11 @@ use native.Mathlib.Omega.{arith}
 use lib.Dec.{lit≤}
 use lib.ListN.{getD, List·getD-eq-default}
 use Rattle.below.specs.Below.{nth, if_then_else_, _<?_, _and_, tab}
-use Rattle.records.specs.Record.{gradeOf, codeAt}
-use Rattle.records.specs.Grades.{weightOf}
-use Rattle.records.specs.Table.{fragments, recordAt}
+use Rattle.fields.specs.Record.{gradeOf, codeAt}
+use Rattle.fields.specs.Grades.{weightOf}
+use Rattle.fields.specs.Table.{fragments, recordAt}
 use Rattle.below.proofs.BelowLaws.{both, if-ind, if-true, lt-<?, length-tab, getD-tab}
-use Rattle.records.proofs.GradeLaws.{weight-range}
+use Rattle.fields.proofs.GradeLaws.{weight-range}
 use Rattle.conflicts.specs.Grid.{Grid, gridOf, withRows, callsConflict, gapless, coverage}
 use Rattle.matrix.specs.Algorithm.Matrix.{matrixGrid, weightedGrid, Weights}
 use Rattle.conflicts.specs.Sides.{errorFree, firstSides}

@@ -2,11 +2,11 @@
 ghost use mathlib.Core.Path.{_≡_};
 ghost use Prim.Native.Nat.{_+_, _*_};
 ghost use lib.ListN.{length, getD};
-ghost use Rattle.records.specs.Record.{isCall};
+ghost use Rattle.fields.specs.Record.{isCall};
 ghost use Rattle.matrix.specs.Algorithm.Cells.{tableCells};
-use records::fill_row;
-use records::is_call;
-use records::record_at;
+use fields::fill_row;
+use fields::is_call;
+use fields::record_at;
 
 // Writes the cells of a table into a matrix of 128 cells to a fragment.
 pub fn fill_matrix(n: usize, table: &[u8], cells: &mut [u8])

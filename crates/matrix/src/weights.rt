@@ -2,9 +2,9 @@
 ghost use mathlib.Core.Path.{_≡_};
 ghost use lib.ListN.{length};
 ghost use Rattle.matrix.specs.Algorithm.Cells.{tableWeight, tableWeights};
-use records::grade;
-use records::record_at;
-use records::weight;
+use fields::grade;
+use fields::record_at;
+use fields::weight;
 
 // The weight of fragment i, and 1 where there is none: the empty part has grade 0.
 fn weight_at(table: &[u8], i: usize) -> u8

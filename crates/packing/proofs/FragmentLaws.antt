@@ -11,7 +11,7 @@ use lib.Dec.{T}
 use lib.ListN.{length, getD, take, drop, length-drop}
 use lib.Seq.{getD-take, getD-drop, length-take-le}
 use Rattle.below.specs.Below.{_==_, _<?_, _and_, isnt, anyBelow, tab, concat}
-use Rattle.records.specs.Writing.{callsStart, callsEnd, callsSpan, withoutCalls, recordOf, codesOf, writableRow, writable, rowOf}
+use Rattle.fields.specs.Writing.{callsStart, callsEnd, callsSpan, withoutCalls, recordOf, codesOf, writableRow, writable, rowOf}
 use Rattle.records.specs.Outcome.{Verdict}
 use Rattle.records.specs.Rules.{rule, decide, precedes, outOfOrder, earlierRules}
 use Rattle.below.proofs.BelowLaws.{both, same-test, ==-eq, eq-==, isnt-==, isnt-<?, le-≤?, le-isnt, any-ext, none-at, none-of}

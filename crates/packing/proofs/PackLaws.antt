@@ -12,7 +12,7 @@ use lib.ListN.{length, getD, drop}
 use lib.Seq.{take-at, drop-at, drop-drop, drop-length}
 use borrow.Rule.Slice.PartMut.{putMid}
 use Rattle.below.specs.Below.{if_then_else_, tab, tabFrom, concat}
-use Rattle.records.specs.Writing.{recordOf, codesOf, writable, RecordWritten, rowOf, packed}
+use Rattle.fields.specs.Writing.{recordOf, codesOf, writable, RecordWritten, rowOf, packed}
 use Rattle.records.specs.Outcome.{Verdict, accepted, refused}
 use Rattle.records.specs.Rules.{decide}
 use Rattle.below.proofs.BelowLaws.{both, is-true, is-false, eq-==, ne-isnt, T-isnt-isnt}

@@ -8,9 +8,9 @@ use native.Mathlib.Nat.{pos-of-ne-zero}
 use native.Mathlib.Omega.{arith}
 use lib.ListN.{length, getD}
 use Rattle.below.specs.Below.{_==_, tab}
-use Rattle.records.specs.Record.{startOf, spanOf, codeAt}
-use Rattle.records.specs.Table.{fragments, recordAt, startAt, tagAt, unpackedCells, unpackedTags, unpackedGrades}
-use Rattle.records.specs.Writing.{rowOf, packed}
+use Rattle.fields.specs.Record.{startOf, spanOf, codeAt}
+use Rattle.fields.specs.Table.{fragments, recordAt, startAt, tagAt, unpackedCells, unpackedTags, unpackedGrades}
+use Rattle.fields.specs.Writing.{rowOf, packed}
 use Rattle.records.specs.Outcome.{Verdict, accepted}
 use Rattle.records.specs.Rules.{rule, decide, earlierRules, tableRules}
 use Rattle.records.proofs.RuleLaws.{NoneBroken, places-kept, places-refused}

@@ -10,8 +10,8 @@ use lib.ListN.{length, getD}
 use lib.Seq.{ext-getD}
 use denote.Ref.{RefT, now}
 use Rattle.below.specs.Below.{if_then_else_, _<?_, tab, concat}
-use Rattle.records.specs.Record.{codeAt}
-use Rattle.records.specs.Table.{fragments, recordAt, Part, partStart, partLength, unpackedCells, unpackedTags, unpackedGrades}
+use Rattle.fields.specs.Record.{codeAt}
+use Rattle.fields.specs.Table.{fragments, recordAt, Part, partStart, partLength, unpackedCells, unpackedTags, unpackedGrades}
 use Rattle.records.specs.Outcome.{Verdict, accepted, refused}
 use Rattle.records.specs.Rules.{Rule, decide, sizeRules, tableRules}
 use Rattle.below.proofs.BelowLaws.{if-true, lt-<?, length-tab, getD-tab, is-true, ne-isnt}
@@ -22,7 +22,7 @@ use Rattle.conflicts.proofs.AcceptedServices.{length-kept}
 use Rattle.records.specs.Algorithm.Kept.{SizesKept}
 use Rattle.records.proofs.AcceptedLaws.{sized-count}
 use Rattle.below.proofs.RowLaws.{length-flat, flat-at}
-use Rattle.records.proofs.PartLaws.{part-record}
+use Rattle.fields.proofs.PartLaws.{part-record}
 
 -- the cells are m rows of n
 pub unpacked-length : (n : ℕ) (table : List ℕ) → length (unpackedCells n table) ≡ fragments table * n

@@ -6,8 +6,8 @@ use mathlib.Core.List.{List}
 use Prim.Native.Nat.{ℕ, _<_}
 use lib.ListN.{length, getD}
 use Rattle.below.specs.Below.{Lowest, _==_}
-use Rattle.records.specs.Record.{spanOf}
-use Rattle.records.specs.Table.{fragments, recordAt}
+use Rattle.fields.specs.Record.{spanOf}
+use Rattle.fields.specs.Table.{fragments, recordAt}
 use Rattle.records.specs.Outcome.{Verdict, accepted, refused}
 use Rattle.conflicts.specs.Services.{unpackLeaves, packLeaves}
 

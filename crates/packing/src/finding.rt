@@ -1,8 +1,8 @@
 // Find: the first record with a tag.
-ghost use Rattle.records.specs.Table.{Part};
+ghost use Rattle.fields.specs.Table.{Part};
 ghost use Rattle.conflicts.specs.Services.{findLeaves};
-use records::position_of;
-use records::record_at;
+use fields::position_of;
+use fields::record_at;
 
 // The first whole record with the tag, as those very bytes of the table; the empty part at its end where none has it.
 pub fn find(tag: u32, table: &[u8]) -> &[u8]

@@ -2,17 +2,17 @@
 ghost use mathlib.Core.Path.{_≡_};
 ghost use Prim.Native.Nat.{_*_};
 ghost use lib.ListN.{length};
-ghost use Rattle.records.specs.Table.{fragments, unpackedCells, unpackedTags, unpackedGrades};
+ghost use Rattle.fields.specs.Table.{fragments, unpackedCells, unpackedTags, unpackedGrades};
 ghost use Rattle.records.specs.Outcome.{outcomeOf};
 ghost use Rattle.conflicts.specs.Services.{unpackLeaves};
 ghost use Rattle.records.specs.Algorithm.Kept.{SizesKept};
+use fields::fill_row;
+use fields::grade;
+use fields::record_at;
+use fields::tag;
 use records::Outcome;
-use records::fill_row;
-use records::grade;
-use records::record_at;
 use records::records_fault;
 use records::size_fault;
-use records::tag;
 
 // Writes the m × n cells, a row of n for each fragment.
 fn fill_cells(n: usize, table: &[u8], cells: &mut [u8])

@@ -187,6 +187,11 @@ module _ (s : ℕ) (p : ℕ → Bool) {x : Places} (is : x ≡ placesWhere p) wh
       ap₂ places (word-none 64 _ (λ b h. up-out s p _ (omega arith)))
       (ap (λ (z : ℕ). z * 2 ^ u % 2 ^ 64) low-is ∙ word-up t u 64 _ d ∙ up-start (1 * 64) s t p _ (omega arith) (λ k h. up-out s p _ (omega arith)) (λ k h. up-in s p _ _ (omega arith)))
 
+  -- 128 further up, and more
+  pub up-past : 128 ≤ s → places 0 0 ≡ placesWhere (upBy s p)
+  unfolding placesWhere halfWord
+  up-past h = ap₂ places (word-none 64 _ (λ b l. up-out s p _ (omega arith))) (word-none 64 _ (λ b l. up-out s p _ (omega arith)))
+
 -- ---- the first places
 
 -- the word that the code makes of a bit and of the bits before it

@@ -65,7 +65,6 @@ impl Places {
 
     // Every place s further up; those that come past the last are left out.
     pub fn raised(self, s: usize) -> Places
-        requires { ⌜ s < 128 ⌝ }
         ensures { λ r. ⌜ ((p : ℕ → Bool) → self ≡ placesWhere p → r ≡ placesWhere (λ c. s ≤? c and p (c - s))) ⌝ }
     {
         if s == 0 {
@@ -77,10 +76,13 @@ impl Places {
                 high: (self.high << s) + (self.low >> (64 - s)),
             };
         }
-        Places {
-            low: 0,
-            high: self.low << (s - 64),
+        if s < 128 {
+            return Places {
+                low: 0,
+                high: self.low << (s - 64),
+            };
         }
+        Places { low: 0, high: 0 }
     }
 
     // The first places.

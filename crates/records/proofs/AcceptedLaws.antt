@@ -8,7 +8,7 @@ use native.Mathlib.Omega.{arith}
 use lib.Dec.{T}
 use lib.ListN.{length}
 use Rattle.below.specs.Below.{isnt, tab}
-use Rattle.records.specs.Table.{fragments, recordAt, startAt, tagAt}
+use Rattle.fields.specs.Table.{fragments, recordAt, startAt, tagAt}
 use Rattle.records.specs.Outcome.{Verdict, accepted}
 use Rattle.records.specs.Algorithm.Kept.{SizesKept, RecordsKept, GaplessKept}
 use Rattle.records.specs.Rules.{Rule, rule, decide, gapped, precedes, earlierRules, spanRules, recordRules, gaplessRules, tableRules, gaplessTableRules, sizeRules}

@@ -9,8 +9,8 @@ use native.Mathlib.Decide.{decLe}
 use native.Mathlib.Omega.{arith}
 use lib.Dec.{T}
 use Rattle.below.specs.Below.{firstBelow, endBelow, anyBelow, _==_, isnt}
-use Rattle.records.specs.Record.{isCall}
-use Rattle.records.specs.Writing.{callsEnd, callsStart, callsSpan, withoutCalls}
+use Rattle.fields.specs.Record.{isCall}
+use Rattle.fields.specs.Writing.{callsEnd, callsStart, callsSpan, withoutCalls}
 use Rattle.records.specs.Rules.{gapIn}
 use Rattle.below.proofs.BelowLaws.{both, left-of, right-of, or-left, or-right, or-cases, same-test, T-isnt, isnt-T, if-ind, if-true, if-false, ==-eq, ==-refl, eq-==, ne-isnt, <?-lt, lt-<?, anyBelow-of, anyBelow-at, none-at, none-of, firstBelow-at, firstBelow-least}
 

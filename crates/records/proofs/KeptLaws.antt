@@ -6,7 +6,7 @@ use Prim.Native.Nat.{ℕ, _%_, _≤_, _<_}
 use lib.Dec.{T}
 use lib.ListN.{length}
 use Rattle.below.specs.Below.{isnt, tab, concat}
-use Rattle.records.specs.Table.{fragments, recordAt, startAt, tagAt}
+use Rattle.fields.specs.Table.{fragments, recordAt, startAt, tagAt}
 use Rattle.records.specs.Outcome.{Verdict, accepted}
 use Rattle.records.specs.Rules.{Rule, decide, earlierRules, spanRules, recordRules, sizeRules}
 use Rattle.below.proofs.BelowLaws.{is-false, T-isnt-isnt, eq-==, le-isnt}

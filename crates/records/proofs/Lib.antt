@@ -1,11 +1,8 @@
-pub mod ByteLaws
-pub mod FieldLaws
-pub mod GradeLaws
 pub mod ExtentLaws
-pub mod PartLaws
 pub mod RuleLaws
 pub mod OrderLaws
 pub mod FaultLaws
+pub mod SpanLaws
 pub mod OutcomeLaws
 pub mod PackLaws
 pub mod SoundLaws

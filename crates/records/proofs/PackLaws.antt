@@ -10,12 +10,12 @@ use lib.Dec.{T}
 use lib.ListN.{length, getD, take, drop, length-drop, take-append-drop}
 use lib.Seq.{getD-take, getD-drop, length-take-le, take-add, drop-cons}
 use Rattle.below.specs.Below.{_<?_, isnt}
-use Rattle.records.specs.Record.{littleEndian, tagOf, startOf, spanOf, gradeOf, isCall, cellOf, codeAt}
-use Rattle.records.specs.Writing.{bytesOf, cellBytes, callsStart, callsSpan, cut, laidOut, recordOf}
+use Rattle.fields.specs.Record.{littleEndian, tagOf, startOf, spanOf, gradeOf, isCall, cellOf, codeAt}
+use Rattle.fields.specs.Writing.{bytesOf, cellBytes, callsStart, callsSpan, cut, laidOut, recordOf}
 use Rattle.records.specs.Rules.{outOfFrame, strayBits, unknownCall, openEnd}
 use Rattle.below.proofs.BelowLaws.{isnt-isnt, neither, not-both, none-at, if-ind, if-true, if-false, ==-eq, eq-==, isnt-==, <?-lt, lt-<?, isnt-<?, le-isnt, le-≤?}
-use Rattle.records.proofs.FieldLaws.{codeAt-in, codeAt-out}
-use Rattle.records.proofs.ByteLaws.{bytes-again, number-two, number-four, cell-small, length-cellBytes, code-written, cellBytes-again}
+use Rattle.fields.proofs.FieldLaws.{codeAt-in, codeAt-out}
+use Rattle.fields.proofs.ByteLaws.{bytes-again, number-two, number-four, cell-small, length-cellBytes, code-written, cellBytes-again}
 use Rattle.records.proofs.ExtentLaws.{Extent, extent-of, extent-one, calls, call-of, no-call, hole-of}
 
 -- ---- a record's bytes by its fields

@@ -6,12 +6,12 @@ use Prim.Native.Nat.{ℕ, _+_, _-_, _≤_, _<_}
 use native.Mathlib.Decide.{decLe}
 use native.Mathlib.Omega.{arith}
 use Rattle.below.specs.Below.{_==_}
-use Rattle.records.specs.Record.{startOf, spanOf, cellOf, codeAt}
-use Rattle.records.specs.Writing.{callsStart, callsSpan, recordOf}
+use Rattle.fields.specs.Record.{startOf, spanOf, cellOf, codeAt}
+use Rattle.fields.specs.Writing.{callsStart, callsSpan, recordOf}
 use Rattle.records.specs.Rules.{outOfFrame, strayBits, unknownCall, openEnd, gapIn, gapped}
 use Rattle.below.proofs.BelowLaws.{is-false, isnt-or, isnt-and, T-isnt-isnt, none-of, any-ext, ==-eq, eq-==, ne-isnt, le-isnt, <?-lt, ≤?-le}
 use Rattle.records.proofs.ExtentLaws.{Extent, extent-of, extent-one, calls, call-range, gap-within}
-use Rattle.records.proofs.FieldLaws.{codeAt-in, codeAt-out}
+use Rattle.fields.proofs.FieldLaws.{codeAt-in, codeAt-out}
 use Rattle.records.proofs.FaultLaws.{span-extent}
 use Rattle.records.proofs.PackLaws.{Sound, sound-small, sound-extent, span-recordOf, grade-recordOf, start-recordOf, cell-recordOf, cut-in, cut-out, extent-same}
 

@@ -8,9 +8,9 @@ use native.Mathlib.Omega.{arith}
 use lib.ListN.{length, getD, take, drop, length-drop}
 use lib.Seq.{getD-take, getD-drop, length-take-le}
 use Rattle.below.specs.Below.{tab, concat}
-use Rattle.records.specs.Record.{tagOf, gradeOf, codeAt}
-use Rattle.records.specs.Table.{fragments, recordAt, unpackedCells, unpackedTags, unpackedGrades}
-use Rattle.records.specs.Writing.{callsSpan, recordOf, rowOf, packed}
+use Rattle.fields.specs.Record.{tagOf, gradeOf, codeAt}
+use Rattle.fields.specs.Table.{fragments, recordAt, unpackedCells, unpackedTags, unpackedGrades}
+use Rattle.fields.specs.Writing.{callsSpan, recordOf, rowOf, packed}
 use Rattle.below.proofs.BelowLaws.{length-tab, getD-tab}
 use Rattle.below.proofs.RowLaws.{tab-ext, tab-again, cells-again, rows-whole, length-laid-out, row-laid, length-flat, flat-at}
 use Rattle.records.proofs.PackLaws.{Sound, length-recordOf, tag-recordOf, grade-recordOf, record-again, row-again, recordOf-same}

@@ -9,9 +9,9 @@ use Prim.Native.String.{String}
 use lib.Dec.{eqb}
 use lib.ListN.{replicate}
 use Rattle.below.specs.Below.{if_then_else_, _==_, _<?_, _≤?_, _and_, _or_, isnt, anyBelow, sumBelow, firstBelow, endBelow, maxBelow, tab, tabFrom, concat}
-use Rattle.records.specs.Record.{littleEndian, tagOf, startOf, spanOf, gradeOf, isCall, cellOf, codeAt}
-use Rattle.records.specs.Table.{fragments, recordAt, position, columnCount, unpackedCells, unpackedTags, unpackedGrades}
-use Rattle.records.specs.Writing.{bytesOf, cellBytes, callsEnd, callsStart, callsSpan, cut, laidOut, recordOf, rowOf, packed}
+use Rattle.fields.specs.Record.{littleEndian, tagOf, startOf, spanOf, gradeOf, isCall, cellOf, codeAt}
+use Rattle.fields.specs.Table.{fragments, recordAt, position, columnCount, unpackedCells, unpackedTags, unpackedGrades}
+use Rattle.fields.specs.Writing.{bytesOf, cellBytes, callsEnd, callsStart, callsSpan, cut, laidOut, recordOf, rowOf, packed}
 use Rattle.records.specs.Outcome.{Verdict, accepted, refused}
 use Rattle.records.specs.Rules.{decide, outOfFrame, strayBits, unknownCall, openEnd, gapIn, gapped, tagTwice, precedes, outOfOrder, earlierRules, spanRules, recordRules, gaplessRules, tableRules, gaplessTableRules, sizeRules, tableVerdict}
 use Rattle.records.proofs.TrialTools.{sameVerdict, sameList, filled, made}

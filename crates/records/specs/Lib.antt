@@ -1,7 +1,3 @@
-pub mod Record
-pub mod Table
-pub mod Writing
-pub mod Grades
 pub mod Outcome
 pub mod Rules
 pub mod Algorithm

@@ -5,8 +5,8 @@ use mathlib.Core.Bool.{Bool}
 use mathlib.Core.List.{List, [], _∷_, _++_}
 use lib.ListN.{length}
 use Rattle.below.specs.Below.{if_then_else_, _==_, _<?_, _≤?_, _and_, _or_, isnt, anyBelow, tab, concat}
-use Rattle.records.specs.Record.{startOf, spanOf, gradeOf, isCall, cellOf}
-use Rattle.records.specs.Table.{fragments, recordAt, startAt, tagAt}
+use Rattle.fields.specs.Record.{startOf, spanOf, gradeOf, isCall, cellOf}
+use Rattle.fields.specs.Table.{fragments, recordAt, startAt, tagAt}
 use Rattle.records.specs.Outcome.{Verdict, accepted, refused}
 
 -- a rule's number, its place, and whether it is broken

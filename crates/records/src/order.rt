@@ -1,11 +1,11 @@
 // The order of records: by start, and at one start by tag.
 ghost use mathlib.Core.Path.{_≡_};
 ghost use Prim.Native.Nat.{_<_};
-ghost use Rattle.records.specs.Table.{fragments, startAt, tagAt};
+ghost use Rattle.fields.specs.Table.{fragments, startAt, tagAt};
 ghost use Rattle.records.specs.Rules.{precedes, outOfOrder};
-use crate::fields::start;
-use crate::fields::tag;
-use crate::table::record_at;
+use fields::record_at;
+use fields::start;
+use fields::tag;
 
 // Whether a record with this start and tag comes before one with the others.
 pub fn comes_before(start: usize, tag: u32, start2: usize, tag2: u32) -> bool

@@ -6,7 +6,7 @@ use mathlib.Core.List.{List}
 use Prim.Native.Nat.{ℕ}
 use lib.Dec.{T}
 use Rattle.below.specs.Below.{if_then_else_}
-use Rattle.records.specs.Table.{fragments}
+use Rattle.fields.specs.Table.{fragments}
 use Rattle.records.specs.Outcome.{Verdict}
 use Rattle.below.proofs.BelowLaws.{is-true}
 use Rattle.records.proofs.AcceptedLaws.{sized-count, sized-n}

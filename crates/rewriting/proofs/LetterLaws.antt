@@ -10,7 +10,7 @@ use native.Mathlib.Omega.{arith}
 use lib.Dec.{T}
 use lib.ListN.{getD, List·getD-eq-default}
 use Rattle.below.specs.Below.{if_then_else_, sumBelow, tab, _==_, _<?_, _and_, isnt, nth}
-use Rattle.records.specs.Record.{isCall}
+use Rattle.fields.specs.Record.{isCall}
 use Rattle.below.proofs.BelowLaws.{both, right-of, if-ind, if-true, if-false, is-false, isnt-T, T-isnt, same-test, left-of, ==-eq, eq-==, <?-lt, lt-<?, length-tab, getD-tab}
 use Rattle.below.proofs.RowLaws.{tab-ext}
 use Rattle.matrix.specs.Algorithm.Matrix.{weightedGrid}

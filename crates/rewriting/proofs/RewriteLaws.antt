@@ -6,10 +6,10 @@ use Prim.Native.Nat.{ℕ, _+_, _*_, _/_, _%_, _≤_, _<_}
 use native.Mathlib.Omega.{arith}
 use lib.ListN.{getD}
 use Rattle.below.specs.Below.{tab, concat, _<?_}
-use Rattle.records.specs.Record.{startOf, spanOf, cellOf}
-use Rattle.records.specs.Table.{fragments, recordAt}
+use Rattle.fields.specs.Record.{startOf, spanOf, cellOf}
+use Rattle.fields.specs.Table.{fragments, recordAt}
 use Rattle.below.proofs.BelowLaws.{if-true, if-false, lt-<?, le-isnt}
-use Rattle.records.proofs.ByteLaws.{cell-small}
+use Rattle.fields.proofs.ByteLaws.{cell-small}
 use Rattle.below.proofs.RowLaws.{tab-ext, tab-again, flat-tab}
 use Rattle.records.proofs.TableLaws.{length-recordAt}
 use Rattle.conflicts.specs.Answer.{rewrittenCode, rewritten}

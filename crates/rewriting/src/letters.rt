@@ -1,10 +1,10 @@
 // The letters that the sides turn to, and the cells after correction.
-use records::is_call;
+use fields::is_call;
 ghost use mathlib.Core.Path.{_≡_};
 ghost use Prim.Native.Nat.{_≤_, _<_};
 ghost use lib.ListN.{length};
 ghost use Rattle.below.specs.Below.{nth, if_then_else_, tab, _==_, _and_};
-ghost use Rattle.records.specs.Record.{isCall};
+ghost use Rattle.fields.specs.Record.{isCall};
 ghost use Rattle.matrix.specs.Algorithm.Matrix.{weightedGrid, Matrix};
 ghost use Rattle.conflicts.specs.Corrections.{letterWeight, sideLetter, majorityLetter};
 ghost use Rattle.rewriting.specs.Algorithm.Letters.{OnSides, correctedCells, letteredAt};

@@ -2,14 +2,14 @@
 ghost use mathlib.Core.Path.{_≡_};
 ghost use Prim.Native.Nat.{_*_, _≤_, _<_};
 ghost use lib.ListN.{length, getD};
-ghost use Rattle.records.specs.Table.{fragments};
+ghost use Rattle.fields.specs.Table.{fragments};
 ghost use Rattle.conflicts.specs.Answer.{rewrittenCode, rewritten};
 ghost use Rattle.rewriting.specs.Algorithm.Rewriting.{rowIn, TwoBits, rewrittenTable};
-use records::byte;
-use records::cell;
-use records::record_at;
-use records::span;
-use records::start;
+use fields::byte;
+use fields::cell;
+use fields::record_at;
+use fields::span;
+use fields::start;
 
 // The code of cell q of fragment i's record.
 fn new_code(part: &[u8], cells: &[u8], i: usize, q: usize) -> u8

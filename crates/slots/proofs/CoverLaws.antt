@@ -8,8 +8,8 @@ use native.Mathlib.Nat.{min-le-left, min-le-right}
 use native.Mathlib.Omega.{arith}
 use lib.Dec.{T}
 use Rattle.below.specs.Below.{nth, if_then_else_, bit, sumBelow, countBelow, _==_, _<?_, _≤?_, _and_}
-use Rattle.records.specs.Record.{isCall}
-use Rattle.records.specs.Writing.{callsEnd}
+use Rattle.fields.specs.Record.{isCall}
+use Rattle.fields.specs.Writing.{callsEnd}
 use Rattle.below.proofs.BelowLaws.{both, left-of, right-of, ==-eq, <?-lt, lt-<?, ≤?-le, le-≤?, same-test, anyBelow-at, anyBelow-of, sum-ext, sum-le, sum-add, sum-most, count-ext, firstBelow-le, firstBelow-at, firstBelow-least}
 use Rattle.records.proofs.ExtentLaws.{endBelow-le, endBelow-at, endBelow-past, call-of}
 use Rattle.conflicts.specs.Grid.{Grid, stretchCovers, coverage}

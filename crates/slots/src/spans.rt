@@ -3,7 +3,7 @@ use matrix::call_at;
 ghost use mathlib.Core.Path.{_≡_};
 ghost use Prim.Native.Nat.{ℕ, _+_, _*_};
 ghost use lib.ListN.{length, getD};
-ghost use Rattle.records.specs.Record.{isCall};
+ghost use Rattle.fields.specs.Record.{isCall};
 ghost use Rattle.matrix.specs.Algorithm.Matrix.{matrixGrid, Matrix};
 ghost use Rattle.slots.specs.Algorithm.Columns.{firstColumn, endColumn};
 ghost use Rattle.slots.specs.Algorithm.Spans.{Spanned};

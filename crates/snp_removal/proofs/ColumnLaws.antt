@@ -8,7 +8,7 @@ use native.Mathlib.Decide.{ℕ-discrete}
 use native.Mathlib.Omega.{arith}
 use lib.Dec.{T}
 use Rattle.below.specs.Below.{_==_, _and_, isnt, anyBelow}
-use Rattle.records.specs.Record.{isCall}
+use Rattle.fields.specs.Record.{isCall}
 use Rattle.records.specs.Rules.{gapIn}
 use Rattle.below.proofs.BelowLaws.{both, left-of, right-of, or-left, or-right, or-cases, T-isnt, isnt-T, same-test, ==-eq, ==-refl, isnt-==, lt-<?, allBelow-at, anyBelow-at, anyBelow-of}
 use Rattle.conflicts.specs.Grid.{Grid, gapless}

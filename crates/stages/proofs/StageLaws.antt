@@ -6,7 +6,7 @@ use Prim.Native.Nat.{ℕ, _*_, _≤_, _<_}
 use native.Mathlib.Omega.{arith}
 use lib.ListN.{length}
 use Rattle.below.specs.Below.{concat}
-use Rattle.records.specs.Table.{fragments}
+use Rattle.fields.specs.Table.{fragments}
 use Rattle.records.specs.Outcome.{Verdict, accepted, refused}
 use Rattle.records.specs.Rules.{Rule, decide, sizeRules, tableRules, gaplessTableRules}
 use Rattle.below.proofs.SearchLaws.{<?-true}

@@ -1,7 +1,7 @@
 // The rules that S, F and C share, stage by stage: the first fault, or the number of fragments.
 ghost use mathlib.Core.Path.{_≡_};
 ghost use Rattle.below.specs.Below.{concat};
-ghost use Rattle.records.specs.Table.{fragments};
+ghost use Rattle.fields.specs.Table.{fragments};
 ghost use Rattle.records.specs.Outcome.{outcomeOf, accepted};
 ghost use Rattle.records.specs.Rules.{decide};
 ghost use Rattle.conflicts.specs.Services.{removalRules, lentStages, correctionStages};

@@ -9,7 +9,7 @@ use native.Mathlib.Nat.{eq-zero-or-pos}
 use native.Mathlib.Omega.{arith}
 use lib.ListN.{length}
 use Rattle.below.specs.Below.{if_then_else_, concat}
-use Rattle.records.specs.Table.{fragments}
+use Rattle.fields.specs.Table.{fragments}
 use Rattle.records.specs.Outcome.{Verdict, accepted, refused}
 use Rattle.records.specs.Rules.{Rule, decide, sizeRules, tableRules}
 use Rattle.below.proofs.BelowLaws.{length-tab, is-true, is-false, eq-==, ne-isnt, T-isnt-isnt}

@@ -11,11 +11,11 @@ use lib.ListN.{length, getD, take, drop, length-drop, List·getD-append, List·g
 use lib.Seq.{getD-take, getD-drop, length-take-le, ext-getD}
 use borrow.Rule.Slice.PartMut.{putMid, same-len-mid, mid-len}
 use Rattle.below.specs.Below.{_≤?_, isnt, anyBelow, sumBelow, tab}
-use Rattle.records.specs.Writing.{bytesOf, callsStart, callsSpan, cellBytes, codesOf, cut, laidOut, recordOf, writableRow, writable, RecordWritten}
+use Rattle.fields.specs.Writing.{bytesOf, callsStart, callsSpan, cellBytes, codesOf, cut, laidOut, recordOf, writableRow, writable, RecordWritten}
 use Rattle.below.proofs.BelowLaws.{both, left-of, right-of, T-isnt, isnt-T, is-true, is-false, same-test, le-≤?, isnt-<?, ≤?-le, none-at, ==-eq, eq-==, length-tab}
 use Rattle.below.proofs.FillLaws.{filled-none, filled-part}
 use Rattle.below.proofs.RowLaws.{tab-ext}
-use Rattle.records.proofs.ByteLaws.{four, cellByte-at}
+use Rattle.fields.proofs.ByteLaws.{four, cellByte-at}
 use Rattle.writing.proofs.ScanLaws.{unknown}
 use Rattle.records.proofs.PackLaws.{length-laidOut, cut-in, cut-out}
 

@@ -9,8 +9,8 @@ use native.Mathlib.Decide.{decLe}
 use native.Mathlib.Omega.{arith}
 use lib.Dec.{T, ltb}
 use Rattle.below.specs.Below.{_<?_, _or_, isnt, anyBelow, endBelow, firstBelow}
-use Rattle.records.specs.Record.{isCall}
-use Rattle.records.specs.Writing.{callsEnd, callsStart, callsSpan}
+use Rattle.fields.specs.Record.{isCall}
+use Rattle.fields.specs.Writing.{callsEnd, callsStart, callsSpan}
 use Rattle.below.proofs.BelowLaws.{if-true, if-false, firstBelow-at, firstBelow-least}
 use Rattle.below.proofs.SearchLaws.{NoneBelow, any-more, true-T, false-T}
 use Rattle.records.proofs.ExtentLaws.{calls, endBelow-le, endBelow-at, endBelow-past, start-none, start-some, extent-of}

@@ -5,11 +5,11 @@ ghost use Prim.Native.Nat.{ℕ, _+_, _*_, _^_, _<_, _≤_};
 ghost use lib.Dec.{T};
 ghost use lib.ListN.{length, getD};
 ghost use Rattle.below.specs.Below.{sumBelow, tab};
-ghost use Rattle.records.specs.Writing.{bytesOf, callsSpan, cellBytes, codesOf, cut, laidOut, writableRow, RecordWritten};
+ghost use Rattle.fields.specs.Writing.{bytesOf, callsSpan, cellBytes, codesOf, cut, laidOut, writableRow, RecordWritten};
 use crate::rows::any_unknown;
 use crate::rows::calls_end;
 use crate::rows::calls_start;
-use records::byte;
+use fields::byte;
 
 // Whether a row whose calls reach over a number of columns has a record.
 fn is_writable(row: &[u8], span: usize) -> bool

@@ -2,10 +2,10 @@
 ghost use mathlib.Core.Path.{_≡_};
 ghost use lib.ListN.{length};
 ghost use Rattle.below.specs.Below.{_<?_, anyBelow};
-ghost use Rattle.records.specs.Record.{isCall};
-ghost use Rattle.records.specs.Writing.{callsEnd, callsStart, callsSpan, codesOf};
-use records::byte;
-use records::is_call;
+ghost use Rattle.fields.specs.Record.{isCall};
+ghost use Rattle.fields.specs.Writing.{callsEnd, callsStart, callsSpan, codesOf};
+use fields::byte;
+use fields::is_call;
 
 // Whether a row has a call at a column.
 fn is_call_at(row: &[u8], c: usize) -> bool

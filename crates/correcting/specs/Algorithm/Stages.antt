@@ -4,7 +4,7 @@ use mathlib.Core.Path.{_≡_}
 use mathlib.Core.List.{List}
 use Prim.Native.Nat.{ℕ}
 use Rattle.below.specs.Below.{concat}
-use Rattle.records.specs.Table.{fragments}
+use Rattle.fields.specs.Table.{fragments}
 use Rattle.records.specs.Rules.{decide}
 use Rattle.records.specs.Outcome.{accepted}
 use Rattle.conflicts.specs.Services.{correctionStages}

@@ -5,7 +5,7 @@ use mathlib.Core.Bool.{Bool, true}
 use mathlib.Core.List.{List}
 use Prim.Native.Nat.{ℕ, zero, suc, _<_}
 use Rattle.below.specs.Below.{_==_, nth}
-use Rattle.records.specs.Writing.{callsEnd}
+use Rattle.fields.specs.Writing.{callsEnd}
 use Rattle.conflicts.specs.Grid.{Grid, agree}
 use Rattle.places.specs.Algorithm.Places.{anywhere, placesWhere, conflictSize}
 use Rattle.masks.specs.Algorithm.Masks.{lineAt}

@@ -5,9 +5,9 @@ use mathlib.Core.List.{List}
 use Prim.Native.Nat.{ℕ, _/_, _%_, _≤_}
 use lib.ListN.{length}
 use Rattle.below.specs.Below.{if_then_else_, _<?_, _and_, tab}
-use Rattle.records.specs.Record.{gradeOf, codeAt}
-use Rattle.records.specs.Grades.{weightOf}
-use Rattle.records.specs.Table.{fragments, recordAt}
+use Rattle.fields.specs.Record.{gradeOf, codeAt}
+use Rattle.fields.specs.Grades.{weightOf}
+use Rattle.fields.specs.Table.{fragments, recordAt}
 
 -- the cells of a table: fragment i's code at column c stands at place 128i + c, and 0 outside m × n
 unfoldable pub tableCells : ℕ → List ℕ → List ℕ

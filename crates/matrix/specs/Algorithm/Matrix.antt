@@ -6,7 +6,7 @@ use Prim.Native.Nat.{ℕ, _+_, _*_, _≤_, _<_}
 use lib.Dec.{T}
 use lib.ListN.{length, getD}
 use Rattle.below.specs.Below.{nth}
-use Rattle.records.specs.Writing.{callsStart}
+use Rattle.fields.specs.Writing.{callsStart}
 use Rattle.conflicts.specs.Grid.{Grid, gapless}
 
 -- the matrix of a flat list of cells, 128 to a fragment; it has at most 128 columns wherever it is used (`Matrix`). Only C looks at weights, and takes them beside the cells

@@ -5,7 +5,7 @@ use mathlib.Core.List.{List}
 use Prim.Native.Nat.{ℕ, _/_, _%_, _≤_, _<_}
 use lib.ListN.{length, getD}
 use Rattle.below.specs.Below.{nth, if_then_else_, _==_, _<?_, _and_, tab}
-use Rattle.records.specs.Record.{isCall}
+use Rattle.fields.specs.Record.{isCall}
 use Rattle.matrix.specs.Algorithm.Matrix.{weightedGrid}
 use Rattle.conflicts.specs.Corrections.{correctedCell}
 

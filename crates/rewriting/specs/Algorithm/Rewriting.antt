@@ -4,7 +4,7 @@ use mathlib.Core.List.{List}
 use Prim.Native.Nat.{ℕ, _+_, _*_, _<_}
 use lib.ListN.{getD}
 use Rattle.below.specs.Below.{tab, concat}
-use Rattle.records.specs.Table.{fragments, recordAt}
+use Rattle.fields.specs.Table.{fragments, recordAt}
 use Rattle.conflicts.specs.Answer.{rewritten}
 
 -- the row of fragment i in a matrix of 128 cells to a fragment

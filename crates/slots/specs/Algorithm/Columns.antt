@@ -3,8 +3,8 @@
 use Prim.Native.Nat.{ℕ}
 use mathlib.Core.Bool.{Bool}
 use Rattle.below.specs.Below.{firstBelow, _<?_, _≤?_, _and_}
-use Rattle.records.specs.Record.{isCall}
-use Rattle.records.specs.Writing.{callsEnd}
+use Rattle.fields.specs.Record.{isCall}
+use Rattle.fields.specs.Writing.{callsEnd}
 use Rattle.conflicts.specs.Grid.{Grid, coverage}
 
 -- "the first called column" of fragment i, and n where it calls none

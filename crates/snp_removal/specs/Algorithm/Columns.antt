@@ -4,7 +4,7 @@ use Prim.Native.Nat.{ℕ, zero, suc}
 use mathlib.Core.Bool.{Bool, true}
 use mathlib.Core.List.{List}
 use Rattle.below.specs.Below.{_==_, _and_, _or_, isnt, anyBelow}
-use Rattle.records.specs.Record.{isCall}
+use Rattle.fields.specs.Record.{isCall}
 use Rattle.conflicts.specs.Grid.{Grid}
 use Rattle.places.specs.Algorithm.Places.{bothKinds}
 use Rattle.masks.specs.Algorithm.Masks.{lineAt}

@@ -2,7 +2,7 @@
 -- Assumes nothing.
 use mathlib.Core.Path.{ap, _∙_}
 use borrow.Author.Needs.{needs}
-use Rattle.records.specs.Record.{isCall}
+use Rattle.fields.specs.Record.{isCall}
 use Rattle.matrix.proofs.cells.call_at.Statement.{statement}
 use Rattle.matrix.proofs.cells.call_at.Tie as tie
 

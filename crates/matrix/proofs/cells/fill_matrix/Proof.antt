@@ -7,7 +7,7 @@ use Prim.Native.Nat.{ℕ, _+_, _*_, _-_}
 use native.Mathlib.Nat.{add-sub-cancel-left}
 use native.Mathlib.Omega.{arith}
 use Rattle.below.specs.Below.{if_then_else_, _<?_, tab}
-use Rattle.records.specs.Record.{codeAt}
+use Rattle.fields.specs.Record.{codeAt}
 use Rattle.below.proofs.FillLaws.{Filled, filled-none, filled-part, filled-all}
 use Rattle.below.proofs.RowLaws.{tab-ext}
 use Rattle.matrix.specs.Algorithm.Cells.{tableCells}

@@ -1,6 +1,6 @@
 use mathlib.Core.Path.{_∙_, ap}
 use borrow.Author.Needs.{needs}
-use Rattle.records.specs.Grades.{weightOf}
+use Rattle.fields.specs.Grades.{weightOf}
 use Rattle.matrix.proofs.CellLaws.{part-weight}
 use Rattle.matrix.proofs.weights.weight_at.Statement.{statement}
 use Rattle.matrix.proofs.weights.weight_at.Tie as tie

@@ -3,7 +3,7 @@
 use mathlib.Core.Path.{subst}
 use Prim.Native.Nat.{ℕ}
 use borrow.Author.Needs.{needs}
-use Rattle.records.specs.Table.{partStart, partLength, Part}
+use Rattle.fields.specs.Table.{partStart, partLength, Part}
 use Rattle.conflicts.specs.Services.{findLeaves}
 use Rattle.packing.proofs.finding.find.Statement.{statement}
 use Rattle.packing.proofs.finding.find.Tie as tie

@@ -6,7 +6,7 @@ use native.Mathlib.Omega.{arith}
 use native.Mathlib.Nat.{zero-mul, add-sub-cancel-left}
 use lib.ListN.{length, getD}
 use borrow.Author.Needs.{needs}
-use Rattle.records.specs.Writing.{recordOf, rowOf}
+use Rattle.fields.specs.Writing.{recordOf, rowOf}
 use Rattle.below.proofs.RowLaws.{row-next}
 use borrow.Rule.Slice.PartMut.{same-len-mid, mid-len}
 use Rattle.packing.proofs.PackLaws.{Laid, record-written, laid-none, laid-more, laid-all}

@@ -8,7 +8,7 @@ use lib.ListN.{length}
 use borrow.Author.Needs.{needs}
 use Rattle.below.specs.Below.{_==_, _<?_, anyBelow}
 use Rattle.records.specs.Outcome.{accepted}
-use Rattle.records.specs.Writing.{callsSpan, withoutCalls, rowOf}
+use Rattle.fields.specs.Writing.{callsSpan, withoutCalls, rowOf}
 use Rattle.records.specs.Rules.{rule, decide, earlierRules}
 use Rattle.records.proofs.RuleLaws.{rule-broken, rule-kept, decide-none}
 use Rattle.below.proofs.SearchLaws.{==-true, ==-false, <?-true, <?-false}

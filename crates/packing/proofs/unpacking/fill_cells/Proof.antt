@@ -8,8 +8,8 @@ use lib.ListN.{getD}
 use borrow.Author.Needs.{needs}
 use borrow.Rule.Slice.PartMut.{same-len-mid, mid-len}
 use Rattle.below.specs.Below.{if_then_else_, _<?_, tab}
-use Rattle.records.specs.Record.{codeAt}
-use Rattle.records.specs.Table.{fragments, unpackedCells}
+use Rattle.fields.specs.Record.{codeAt}
+use Rattle.fields.specs.Table.{fragments, unpackedCells}
 use Rattle.below.proofs.FillLaws.{Filled, filled-none, filled-part, filled-all}
 use Rattle.below.proofs.RowLaws.{tab-ext, tab-again, row-within, row-next}
 use Rattle.packing.proofs.UnpackLaws.{unpacked-row, unpacked-length}

@@ -1,8 +1,8 @@
 use Prim.Native.Nat.{_-_, _<_}
 use mathlib.Core.Path.{sym, ap, _∙_}
-use Rattle.records.specs.Record.{tagOf}
-use Rattle.records.specs.Table.{fragments, recordAt, unpackedTags}
-use Rattle.records.proofs.PartLaws.{part-record}
+use Rattle.fields.specs.Record.{tagOf}
+use Rattle.fields.specs.Table.{fragments, recordAt, unpackedTags}
+use Rattle.fields.proofs.PartLaws.{part-record}
 use Rattle.below.proofs.FillLaws.{Filled, filled-none, filled-more, filled-all}
 use borrow.Author.Needs.{needs}
 use native.Mathlib.Omega.{arith}

@@ -1,6 +1,6 @@
 use Prim.Native.Nat.{ℕ, _*_}
 use mathlib.Core.Path.{_≡_, sym, ap, _∙_}
-use Rattle.records.specs.Table.{fragments}
+use Rattle.fields.specs.Table.{fragments}
 use Rattle.records.specs.Outcome.{accepted, outcomeOf}
 use Rattle.records.specs.Rules.{decide, tableRules}
 use Rattle.conflicts.specs.Services.{unpackLeaves}

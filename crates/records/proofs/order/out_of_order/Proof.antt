@@ -1,7 +1,7 @@
 use Prim.Native.Nat.{_-_}
 use Rattle.below.specs.Below.{_and_}
 use Rattle.records.specs.Rules.{outOfOrder}
-use Rattle.records.proofs.PartLaws.{part-record}
+use Rattle.fields.proofs.PartLaws.{part-record}
 use Rattle.below.proofs.SearchLaws.{<?-true, <?-false}
 use native.Mathlib.Omega.{arith}
 use borrow.Author.Needs.{needs}

@@ -3,8 +3,8 @@ use native.Mathlib.Nat.{add-sub-cancel-left}
 use mathlib.Core.Path.{_≡_, sym, ap, _∙_}
 use lib.ListN.{length, take, drop}
 use Rattle.below.specs.Below.{_==_}
-use Rattle.records.specs.Record.{tagOf}
-use Rattle.records.specs.Table.{fragments, recordAt}
+use Rattle.fields.specs.Record.{tagOf}
+use Rattle.fields.specs.Table.{fragments, recordAt}
 use Rattle.below.proofs.SearchLaws.{NoneBelow, none-yet, none-more, any-hit, any-none, ==-true, ==-false}
 use borrow.Author.Needs.{needs}
 use native.Mathlib.Omega.{arith}

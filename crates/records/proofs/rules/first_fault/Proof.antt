@@ -1,7 +1,7 @@
 use native.Mathlib.Omega.{arith}
 use Prim.Native.Nat.{_-_, _≤_}
 use mathlib.Core.Path.{_≡_, refl, sym, ap, _∙_}
-use Rattle.records.specs.Table.{fragments}
+use Rattle.fields.specs.Table.{fragments}
 use Rattle.records.specs.Outcome.{accepted, outcomeOf}
 use Rattle.records.specs.Rules.{decide}
 use Rattle.records.specs.Algorithm.Kept.{rulesOf}

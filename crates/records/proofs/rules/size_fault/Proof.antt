@@ -1,5 +1,5 @@
 use Rattle.below.specs.Below.{isnt}
-use Rattle.records.specs.Table.{fragments}
+use Rattle.fields.specs.Table.{fragments}
 use Rattle.records.specs.Rules.{sizeRules, decide}
 use Rattle.below.proofs.SearchLaws.{<?-true, <?-false, ==-true, ==-false}
 use Rattle.records.proofs.rules.size_fault.Statement.{statement}

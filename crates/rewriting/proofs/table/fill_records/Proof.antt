@@ -5,8 +5,8 @@ use mathlib.Core.Path.{sym, ap, _∙_}
 use mathlib.Core.List.{List}
 use native.Mathlib.Omega.{arith}
 use lib.ListN.{length, getD}
-use Rattle.records.specs.Table.{fragments}
-use Rattle.records.proofs.PartLaws.{part-record}
+use Rattle.fields.specs.Table.{fragments}
+use Rattle.fields.proofs.PartLaws.{part-record}
 use Rattle.records.proofs.TableLaws.{length-recordAt}
 use Rattle.below.proofs.FillLaws.{Filled, filled-none, filled-more, filled-all}
 use Rattle.conflicts.specs.Answer.{rewritten}

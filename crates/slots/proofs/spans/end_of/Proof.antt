@@ -5,7 +5,7 @@ use Prim.Native.Nat.{ℕ, _+_, _*_, _≤_}
 use native.Mathlib.Omega.{arith}
 use lib.ListN.{getD}
 use borrow.Author.Needs.{needs}
-use Rattle.records.specs.Writing.{callsEnd}
+use Rattle.fields.specs.Writing.{callsEnd}
 use Rattle.below.proofs.BelowLaws.{passes, fails}
 use Rattle.writing.proofs.ScanLaws.{end-hit, end-miss, end-none}
 use Rattle.matrix.specs.Algorithm.Matrix.{matrixGrid}

@@ -5,7 +5,7 @@ use Prim.Native.Nat.{ℕ, _+_, _*_, _-_, _≤_}
 use native.Mathlib.Omega.{arith}
 use lib.ListN.{getD}
 use borrow.Author.Needs.{needs}
-use Rattle.records.specs.Record.{isCall}
+use Rattle.fields.specs.Record.{isCall}
 use Rattle.below.proofs.SearchLaws.{NoneBelow, none-yet, none-more, first-hit, first-none}
 use Rattle.matrix.specs.Algorithm.Matrix.{matrixGrid}
 use Rattle.slots.specs.Algorithm.Columns.{firstColumn}

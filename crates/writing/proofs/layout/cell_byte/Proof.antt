@@ -1,7 +1,7 @@
 -- `layout::cell_byte` meets its contract.
 -- Assumes nothing.
 use borrow.Author.Needs.{needs}
-use Rattle.records.specs.Writing.{codesOf}
+use Rattle.fields.specs.Writing.{codesOf}
 use Rattle.writing.proofs.LayoutLaws.{cellByte-of}
 use Rattle.writing.proofs.layout.cell_byte.Statement.{statement}
 use Rattle.writing.proofs.layout.cell_byte.Tie as tie

@@ -4,7 +4,7 @@ use mathlib.Core.Path.{sym, _∙_}
 use Prim.Native.Nat.{_-_}
 use native.Mathlib.Omega.{arith}
 use Rattle.below.proofs.FillLaws.{Filled, filled-none, filled-more, filled-all}
-use Rattle.records.specs.Writing.{cellBytes, codesOf}
+use Rattle.fields.specs.Writing.{cellBytes, codesOf}
 use Rattle.writing.proofs.LayoutLaws.{cellByte}
 use Rattle.writing.proofs.layout.fill_cells.Statement.{statement}
 use Rattle.writing.proofs.layout.fill_cells.Tie as tie

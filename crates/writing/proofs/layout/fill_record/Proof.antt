@@ -2,7 +2,7 @@
 -- Assumes nothing.
 use mathlib.Core.Path.{sym, ap, _∙_}
 use borrow.Author.Needs.{needs}
-use Rattle.records.specs.Writing.{laidOut}
+use Rattle.fields.specs.Writing.{laidOut}
 use Rattle.writing.proofs.LayoutLaws.{laid, cut-part, part-small}
 use Rattle.writing.proofs.layout.fill_record.Statement.{statement}
 use Rattle.writing.proofs.layout.fill_record.Tie as tie

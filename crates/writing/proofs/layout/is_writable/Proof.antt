@@ -3,7 +3,7 @@
 use native.Mathlib.Omega.{arith}
 use lib.ListN.{length}
 use borrow.Author.Needs.{needs}
-use Rattle.records.specs.Writing.{codesOf}
+use Rattle.fields.specs.Writing.{codesOf}
 use Rattle.writing.proofs.LayoutLaws.{wide-refused, unknown-refused, writable-by-span}
 use Rattle.below.proofs.BelowLaws.{passes, fails}
 use Rattle.writing.proofs.layout.is_writable.Statement.{statement}

@@ -6,7 +6,7 @@ use native.Mathlib.Omega.{arith}
 use lib.ListN.{length}
 use borrow.Author.Tests.{not-true, not-false}
 use borrow.Author.Needs.{needs}
-use Rattle.records.specs.Writing.{callsSpan, codesOf}
+use Rattle.fields.specs.Writing.{callsSpan, codesOf}
 use Rattle.writing.proofs.LayoutLaws.{writable-narrow, not-long, not-graded, not-writable, written}
 use Rattle.writing.proofs.ScanLaws.{span-fits, start-le-end}
 use Rattle.below.proofs.BelowLaws.{passes, fails}

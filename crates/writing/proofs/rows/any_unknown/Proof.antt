@@ -6,7 +6,7 @@ use native.Mathlib.Omega.{arith}
 use lib.ListN.{length}
 use borrow.Author.Needs.{needs}
 use Rattle.below.specs.Below.{anyBelow}
-use Rattle.records.specs.Writing.{codesOf}
+use Rattle.fields.specs.Writing.{codesOf}
 use Rattle.writing.proofs.ScanLaws.{unknown, unknown-more}
 use Rattle.writing.proofs.rows.any_unknown.Statement.{statement}
 use Rattle.writing.proofs.rows.any_unknown.Tie as tie

@@ -5,7 +5,7 @@ use Prim.Native.Nat.{ℕ, _≤_}
 use native.Mathlib.Omega.{arith}
 use lib.ListN.{length}
 use borrow.Author.Needs.{needs}
-use Rattle.records.specs.Writing.{callsEnd, codesOf}
+use Rattle.fields.specs.Writing.{callsEnd, codesOf}
 use Rattle.writing.proofs.ScanLaws.{end-hit, end-miss, end-none}
 use Rattle.below.proofs.BelowLaws.{passes, fails}
 use Rattle.writing.proofs.rows.calls_end.Statement.{statement}

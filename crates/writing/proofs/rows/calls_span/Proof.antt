@@ -5,7 +5,7 @@ use Prim.Native.Nat.{ℕ, _-_}
 use native.Mathlib.Omega.{arith}
 use lib.ListN.{length}
 use borrow.Author.Needs.{needs}
-use Rattle.records.specs.Writing.{callsSpan, codesOf}
+use Rattle.fields.specs.Writing.{callsSpan, codesOf}
 use Rattle.writing.proofs.ScanLaws.{start-le-end}
 use Rattle.writing.proofs.rows.calls_span.Statement.{statement}
 use Rattle.writing.proofs.rows.calls_span.Tie as tie

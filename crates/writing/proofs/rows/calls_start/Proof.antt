@@ -5,7 +5,7 @@ use Prim.Native.Nat.{_-_, _≤_}
 use native.Mathlib.Omega.{arith}
 use lib.ListN.{length}
 use borrow.Author.Needs.{needs}
-use Rattle.records.specs.Writing.{codesOf}
+use Rattle.fields.specs.Writing.{codesOf}
 use Rattle.writing.proofs.ScanLaws.{start-hit, start-miss}
 use Rattle.below.proofs.SearchLaws.{NoneBelow, none-yet, none-more}
 use Rattle.records.proofs.ExtentLaws.{calls}

@@ -1,0 +1,5 @@
+pub mod ByteLaws
+pub mod FieldLaws
+pub mod GradeLaws
+pub mod PartLaws
+pub mod LetterLaws
