@@ -1,11 +1,16 @@
-// The masks of a cell matrix, 128 cells to a fragment: four words for each of its lines, which are its fragments or its columns.
+// The masks of a table, from the bytes of its records: four words for each of its lines, which are its fragments or its columns.
 ghost use mathlib.Core.Path.{_≡_};
-ghost use Prim.Native.Nat.{_+_, _<_, _≤_};
+ghost use Prim.Native.Nat.{ℕ, _+_, _<_, _≤_};
 ghost use lib.ListN.{length};
-ghost use Rattle.below.specs.Below.{_==_};
-ghost use Rattle.matrix.specs.Algorithm.Matrix.{matrixGrid};
-ghost use Rattle.places.specs.Algorithm.Words.{wordOf, halfWord, InWord};
-ghost use Rattle.masks.specs.Algorithm.Masks.{hasLetter, maskWords, transposed, lineCell, lineGrid, lineAt};
+ghost use Rattle.fields.specs.Table.{fragments};
+ghost use Rattle.records.specs.Algorithm.Kept.{RecordsKept};
+ghost use Rattle.conflicts.specs.Grid.{Grid, gridOf};
+ghost use Rattle.places.specs.Algorithm.Words.{wordOf};
+ghost use Rattle.places.specs.Algorithm.Places.{hasPlace};
+ghost use Rattle.masks.specs.Algorithm.Masks.{lineOf, maskWords, lineAt, transposed, Masks, WordsBegun};
+use fields::letters_of;
+use fields::record_at;
+use fields::start;
 use places::Line;
 use places::Places;
 use places::with_bit;
@@ -41,92 +46,102 @@ pub fn line_at(masks: &[u64], i: usize) -> Line
     }
 }
 
-// Place c of line i: the lines are the columns, or the fragments.
-fn line_cell(columns: bool, cells: &[u8], i: usize, c: usize) -> u8
-    requires { ⌜ (length (now cells) ≡ 16384) × (i < 128) × (c < 128) ⌝ }
-    ensures { λ r. ⌜ r ≡ lineCell columns (now (cells .entry)) i c ⌝ }
+// Writes line i.
+fn put_line(masks: &mut [u64], i: usize, line: Line)
+    requires { ⌜ (length (now masks) ≡ 512) × (i < 128) ⌝ }
+    ensures { λ _. ⌜ ((g : Grid) → line ≡ lineOf g i → WordsBegun g i (now (masks .entry)) → WordsBegun g (i + 1) (now (masks .exit))) ⌝ }
 {
-    if columns {
-        return cells[c * 128 + i];
-    }
-    cells[i * 128 + c]
+    let k = i * 4;
+    masks[k] = line.a.low;
+    masks[k + 1] = line.a.high;
+    masks[k + 2] = line.b.low;
+    masks[k + 3] = line.b.high;
 }
 
-// The letters of line i, of the next places from one on.
-fn letter_words(columns: bool, cells: &[u8], i: usize, start: usize, size: usize) -> Letters
-    requires { ⌜ (length (now cells) ≡ 16384) × (i < 128) × (start + size ≤ 128) × (size ≤ 64) ⌝ }
-    ensures a { λ r. ⌜ r .a ≡ wordOf size (λ b. lineCell columns (now (cells .entry)) i (start + b) == 1) ⌝ }
-    ensures b { λ r. ⌜ r .b ≡ wordOf size (λ b. lineCell columns (now (cells .entry)) i (start + b) == 2) ⌝ }
+// The letters of fragment i at its columns: those of its record's cells, further up by its start.
+fn fragment_line(table: &[u8], i: usize) -> Line
+    requires { ⌜ i < fragments (now table) ⌝ }
+    ensures { λ r. ⌜ ((n : ℕ) → n ≤ 128 → RecordsKept n (now (table .entry)) → r ≡ lineOf (gridOf n (now (table .entry))) i) ⌝ }
+{
+    let part = record_at(table, i);
+    let letters = letters_of(part);
+    let s = start(part) as usize;
+    Line {
+        a: letters.a.raised(s),
+        b: letters.b.raised(s),
+    }
+}
+
+// The same, and no letters where there is no fragment i.
+fn line_of(table: &[u8], i: usize) -> Line
+    ensures { λ r. ⌜ ((n : ℕ) → n ≤ 128 → RecordsKept n (now (table .entry)) → r ≡ lineOf (gridOf n (now (table .entry))) i) ⌝ }
+{
+    if i < table.len() / 32 {
+        return fragment_line(table, i);
+    }
+    Line {
+        a: Places { low: 0, high: 0 },
+        b: Places { low: 0, high: 0 },
+    }
+}
+
+// The columns at which each fragment of a table has A, and those at which it has B. The records keep their rules.
+pub fn fill_masks(table: &[u8], masks: &mut [u64])
+    requires { ⌜ length (now masks) ≡ 512 ⌝ }
+    ensures { λ _. ⌜ ((n : ℕ) → n ≤ 128 → RecordsKept n (now (table .entry)) → now (masks .exit) ≡ maskWords (gridOf n (now (table .entry)))) ⌝ }
+{
+    let mut i = 0;
+    while i < 128 {
+        put_line(masks, i, line_of(table, i));
+        i += 1;
+    }
+}
+
+// The letters of 64 fragments from one on at column c.
+fn column_letters(masks: &[u64], c: usize, start: usize) -> Letters
+    requires { ⌜ (length (now masks) ≡ 512) × (c < 128) × (start ≤ 64) ⌝ }
+    ensures a { λ r. ⌜ r .a ≡ wordOf 64 (λ b. hasPlace (lineAt (now (masks .entry)) (start + b) .a) c) ⌝ }
+    ensures b { λ r. ⌜ r .b ≡ wordOf 64 (λ b. hasPlace (lineAt (now (masks .entry)) (start + b) .b) c) ⌝ }
 {
     let mut a = 0;
     let mut b = 0;
     let mut k = 0;
-    while k < size {
-        let x = line_cell(columns, cells, i, start + k);
-        a = with_bit(a, k, x == 1);
-        b = with_bit(b, k, x == 2);
+    while k < 64 {
+        let line = line_at(masks, start + k);
+        a = with_bit(a, k, line.a.has(c));
+        b = with_bit(b, k, line.b.has(c));
         k += 1;
     }
     Letters { a: a, b: b }
 }
 
-// How many of the 64 places from one on are below n.
-fn in_word(n: usize, start: usize) -> usize
-    ensures { λ r. ⌜ InWord n start r ⌝ }
+// The letters of all fragments at column c.
+fn column_line(masks: &[u64], c: usize) -> Line
+    requires { ⌜ (length (now masks) ≡ 512) × (c < 128) ⌝ }
+    ensures { λ r. ⌜ ((g : Grid) → Masks g (now (masks .entry)) → r ≡ lineOf (transposed g) c) ⌝ }
 {
-    if n <= start {
-        return 0;
-    }
-    if n - start < 64 {
-        return n - start;
-    }
-    64
-}
-
-// Half h of line i of m lines of n places.
-fn half_line(columns: bool, m: usize, n: usize, cells: &[u8], i: usize, h: usize) -> Letters
-    requires { ⌜ (length (now cells) ≡ 16384) × (n ≤ 128) × (i < 128) × (h < 2) ⌝ }
-    ensures a { λ r. ⌜ r .a ≡ halfWord (hasLetter (lineGrid columns m n (now (cells .entry))) 1 i) h ⌝ }
-    ensures b { λ r. ⌜ r .b ≡ halfWord (hasLetter (lineGrid columns m n (now (cells .entry))) 2 i) h ⌝ }
-{
-    if m <= i {
-        return Letters { a: 0, b: 0 };
-    }
-    let start = h * 64;
-    let size = in_word(n, start);
-    letter_words(columns, cells, i, start, size)
-}
-
-// The masks of m lines of n places.
-fn fill_lines(columns: bool, m: usize, n: usize, cells: &[u8], masks: &mut [u64])
-    requires { ⌜ (length (now cells) ≡ 16384) × (n ≤ 128) × (length (now masks) ≡ 512) ⌝ }
-    ensures { λ _. ⌜ now (masks .exit) ≡ maskWords (lineGrid columns m n (now (cells .entry))) ⌝ }
-{
-    let mut i = 0;
-    while i < 128 {
-        let low = half_line(columns, m, n, cells, i, 0);
-        let high = half_line(columns, m, n, cells, i, 1);
-        let k = i * 4;
-        masks[k] = low.a;
-        masks[k + 1] = high.a;
-        masks[k + 2] = low.b;
-        masks[k + 3] = high.b;
-        i += 1;
+    let low = column_letters(masks, c, 0);
+    let high = column_letters(masks, c, 64);
+    Line {
+        a: Places {
+            low: low.a,
+            high: high.a,
+        },
+        b: Places {
+            low: low.b,
+            high: high.b,
+        },
     }
 }
 
-// The columns at which each of the m fragments has A, and those at which it has B.
-pub fn fill_masks(m: usize, n: usize, cells: &[u8], masks: &mut [u64])
-    requires { ⌜ (length (now cells) ≡ 16384) × (n ≤ 128) × (length (now masks) ≡ 512) ⌝ }
-    ensures { λ _. ⌜ now (masks .exit) ≡ maskWords (matrixGrid m n (now (cells .entry))) ⌝ }
+// The fragments that have A at each column, and those that have B.
+pub fn fill_columns(masks: &[u64], columns: &mut [u64])
+    requires { ⌜ (length (now masks) ≡ 512) × (length (now columns) ≡ 512) ⌝ }
+    ensures { λ _. ⌜ ((g : Grid) → Masks g (now (masks .entry)) → now (columns .exit) ≡ maskWords (transposed g)) ⌝ }
 {
-    fill_lines(false, m, n, cells, masks);
-}
-
-// The fragments that have A at each of the n columns, and those that have B.
-pub fn fill_columns(m: usize, n: usize, cells: &[u8], masks: &mut [u64])
-    requires { ⌜ (length (now cells) ≡ 16384) × (m ≤ 128) × (length (now masks) ≡ 512) ⌝ }
-    ensures { λ _. ⌜ now (masks .exit) ≡ maskWords (transposed (matrixGrid m n (now (cells .entry)))) ⌝ }
-{
-    fill_lines(true, n, m, cells, masks);
+    let mut c = 0;
+    while c < 128 {
+        put_line(columns, c, column_line(masks, c));
+        c += 1;
+    }
 }

@@ -1,15 +1,16 @@
 -- The masks of a matrix: for each line, a fragment or a column, the places at which it has A, and those at which it has B.
 -- Assumes nothing.
 use mathlib.Core.Path.{_≡_}
-use mathlib.Core.Bool.{Bool, true, false}
+use mathlib.Core.Bool.{Bool}
 use mathlib.Core.List.{List}
-use Prim.Native.Nat.{ℕ, _+_, _*_, _/_, _%_, _≤_}
-use lib.ListN.{getD}
-use Rattle.below.specs.Below.{_==_, _<?_, _and_, tab, nth}
-use Rattle.conflicts.specs.Grid.{Grid}
+use Prim.Native.Nat.{ℕ, _+_, _*_, _/_, _%_, _≤_, _<_}
+use lib.ListN.{length}
+use Rattle.below.specs.Below.{if_then_else_, _==_, _<?_, _and_, tab, nth}
+use Rattle.records.specs.Algorithm.Kept.{RecordsKept}
+use Rattle.conflicts.specs.Grid.{Grid, gridOf}
 use Rattle.places.specs.declared.lines.Line.{Line}
 use Rattle.places.specs.Algorithm.Words.{halfWord}
-use Rattle.places.specs.Algorithm.Places.{placesWhere}
+use Rattle.places.specs.Algorithm.Places.{placesWhere, hasPlace}
 
 -- fragment i has the letter at column c
 unfoldable pub hasLetter : Grid → ℕ → ℕ → ℕ → Bool
@@ -19,9 +20,13 @@ hasLetter g letter i c = i <? g .m and c <? g .n and g .cell i c == letter
 unfoldable pub lineOf : Grid → ℕ → Line
 lineOf g i = record { a = placesWhere (hasLetter g 1 i); b = placesWhere (hasLetter g 2 i) }
 
--- the words of all fragments, those of fragment i from word 4i on: A of the columns below 64 and of the others, then B
+-- word k of all, those of fragment i from word 4i on: A of the columns below 64 and of the others, then B
+abbrev pub maskWord : Grid → ℕ → ℕ
+maskWord g k = halfWord (hasLetter g (1 + k / 2 % 2) (k / 4)) (k % 2)
+
+-- the words of all fragments
 unfoldable pub maskWords : Grid → List ℕ
-maskWords g = tab 512 (λ k. halfWord (hasLetter g (1 + k / 2 % 2) (k / 4)) (k % 2))
+maskWords g = tab 512 (maskWord g)
 
 -- line i of a list of words
 unfoldable pub lineAt : List ℕ → ℕ → Line
@@ -37,11 +42,29 @@ pub record Masks (g : Grid) (words : List ℕ) : Type 0 where
   pub narrow : g .n ≤ 128
   pub are : words ≡ maskWords g
 
--- place c of line i in a flat list of cells, 128 to a fragment: the lines are its columns or its fragments
-unfoldable pub lineCell : Bool → List ℕ → ℕ → ℕ → ℕ
-lineCell true cells i c = getD cells (c * 128 + i) 0
-lineCell false cells i c = getD cells (i * 128 + c) 0
+-- the code that a line has at place c
+unfoldable pub codeIn : Line → ℕ → ℕ
+codeIn line c = if hasPlace (line .a) c then 1 else if hasPlace (line .b) c then 2 else 0
 
--- m lines of n places
-unfoldable pub lineGrid : Bool → ℕ → ℕ → List ℕ → Grid
-lineGrid columns m n cells = record { m = m; n = n; cell = lineCell columns cells; weight = λ i. 1 }
+-- the matrix of a list of words. Only C looks at weights, and it works on cells
+unfoldable pub wordsGrid : ℕ → ℕ → List ℕ → Grid
+wordsGrid m n words = record { m = m; n = n; cell = λ i c. codeIn (lineAt words i) c; weight = λ i. 1 }
+
+-- the words are those of a matrix of m fragments and n columns
+abbrev pub Worded : ℕ → ℕ → List ℕ → Type 0
+Worded m n words = Masks (wordsGrid m n words) words
+
+-- the words of the lines below i are those of a matrix
+pub record WordsBegun (g : Grid) (i : ℕ) (words : List ℕ) : Type 0 where
+  pub sized : length words ≡ 512
+  pub done : (k : ℕ) → k < i * 4 → nth words k ≡ maskWord g k
+
+-- … of the table, whatever its columns
+pub record TableBegun (table : List ℕ) (i : ℕ) (words : List ℕ) : Type 0 where
+  pub sized : length words ≡ 512
+  pub begun : (n : ℕ) → n ≤ 128 → RecordsKept n table → WordsBegun (gridOf n table) i words
+
+-- … of the columns of a matrix whose fragments have other words
+pub record ColumnsBegun (words : List ℕ) (i : ℕ) (columns : List ℕ) : Type 0 where
+  pub sized : length columns ≡ 512
+  pub begun : (g : Grid) → Masks g words → WordsBegun (transposed g) i columns
