@@ -90,7 +90,7 @@ words-all g i {words} l h begun = filled-all 512 (maskWord g) (i * 4) words (rec
 abbrev letterIn : Grid → ℕ → ℕ → ℕ → Bool
 letterIn g letter i c = g .cell i c == letter
 
-letter-places : (g : Grid) (letter i : ℕ) → i < g .m → placesWhere (hasLetter g letter i) ≡ placesWhere (upTo (g .n) (letterIn g letter i))
+pub letter-places : (g : Grid) (letter i : ℕ) → i < g .m → placesWhere (hasLetter g letter i) ≡ placesWhere (upTo (g .n) (letterIn g letter i))
 unfolding hasLetter _and_
 letter-places g letter i h = where-ext _ _ (λ c l. rw (<?-true i (g .m) h))
 

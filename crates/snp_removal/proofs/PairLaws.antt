@@ -7,15 +7,17 @@ use mathlib.Core.Logic.{_⊎_, inl, inr}
 use Prim.Native.Nat.{ℕ, zero, suc, _-_, _≤_, _<_}
 use native.Mathlib.Omega.{arith}
 use lib.Dec.{T}
-use Rattle.below.specs.Below.{_==_, _and_, _or_, isnt}
+use Rattle.below.specs.Below.{_==_, _and_, _or_, isnt, anyBelow}
 use Rattle.fields.specs.Record.{isCall}
 use Rattle.below.proofs.BelowLaws.{both, left-of, right-of, or-left, or-right, or-cases, same-test, ==-eq, ==-refl, eq-==, isnt-==, ne-isnt, any-ext}
-use Rattle.conflicts.specs.Grid.{Grid, callsConflict}
-use Rattle.places.specs.Algorithm.Places.{occupied, conflictPlaces, agreePlaces, bothKinds}
-use Rattle.masks.specs.Algorithm.Masks.{lineAt, transposed, Masks}
+use Rattle.conflicts.specs.Grid.{Grid, callsConflict, mixed}
+use Rattle.places.specs.declared.places.Places.{Places}
+use Rattle.places.specs.declared.lines.Line.{Line}
+use Rattle.places.specs.Algorithm.Places.{placesWhere, occupied, conflictPlaces, agreePlaces, bothKinds}
+use Rattle.masks.specs.Algorithm.Masks.{hasLetter, lineOf, lineAt, transposed, Masks}
 use Rattle.places.proofs.PlaceLaws.{occupied-below}
-use Rattle.masks.proofs.LineLaws.{codesAgree, line-is, lines-agree, lines-conflict}
-use Rattle.snp_removal.specs.Algorithm.Columns.{callsBoth, columnsConflict, mayFollow, wordsFollow}
+use Rattle.masks.proofs.LineLaws.{codesAgree, line-at, letter-places, lines-agree, lines-conflict}
+use Rattle.snp_removal.specs.Algorithm.Columns.{callsBoth, columnsConflict, mayFollow, wordsFollow, wordsMixed}
 use Rattle.snp_removal.proofs.ColumnLaws.{call-cases, sameLetter, otherLetter, conflict-kinds}
 
 -- ---- two calls
@@ -69,12 +71,23 @@ module _ (g : Grid) (words : List ℕ) (a c : ℕ) (masks : Masks (transposed g)
   unfolding bothKinds transposed sameLetter otherLetter callsBoth
   words-conflict =
       let t = transposed g in
-      let la = line-is t a masks ha in
-      let lc = line-is t c masks hc in
+      let la = line-at t a masks ha in
+      let lc = line-at t c masks hc in
       ap₂ _and_
       (ap occupied (ap₂ agreePlaces la lc ∙ lines-agree t a c ha hc) ∙ occupied-below (g .m) _ (masks .narrow) ∙ any-ext (g .m) _ _ (λ f l. one-letter (g .cell f a) (g .cell f c)))
       (ap occupied (ap₂ conflictPlaces la lc ∙ lines-conflict t a c ha hc) ∙ occupied-below (g .m) _ (masks .narrow) ∙ any-ext (g .m) _ _ (λ f l. two-letters (g .cell f a) (g .cell f c)))
       ∙ sym (conflict-kinds g a c)
+
+-- whether a column is mixed
+words-mixed : (g : Grid) (words : List ℕ) (c : ℕ) → Masks (transposed g) words → c < g .n → wordsMixed words c ≡ mixed g c
+unfolding wordsMixed mixed transposed lineOf
+words-mixed g words c masks h = ap₂ _and_ (one 1 (λ l. l .a) refl) (one 2 (λ l. l .b) refl)
+  where
+    one : (letter : ℕ) (part : Line → Places) → part (lineOf (transposed g) c) ≡ placesWhere (hasLetter (transposed g) letter c) → occupied (part (lineAt words c)) ≡ anyBelow (g .m) (λ i. g .cell i c == letter)
+    one letter part e = ap (λ (l : Line). occupied (part l)) (line-at (transposed g) c masks h) ∙ ap occupied (e ∙ letter-places (transposed g) letter c h) ∙ occupied-below (g .m) _ (masks .narrow)
+
+pub mixed-is : (g : Grid) (words : List ℕ) (c : ℕ) {r : Bool} → Masks (transposed g) words → c < g .n → r ≡ wordsMixed words c → mixed g c ≡ r
+mixed-is g words c masks h e = sym (e ∙ words-mixed g words c masks h)
 
 -- ---- states
 

@@ -6,7 +6,7 @@ use mathlib.Core.List.{List}
 use Rattle.below.specs.Below.{_==_, _and_, _or_, isnt, anyBelow}
 use Rattle.fields.specs.Record.{isCall}
 use Rattle.conflicts.specs.Grid.{Grid}
-use Rattle.places.specs.Algorithm.Places.{bothKinds}
+use Rattle.places.specs.Algorithm.Places.{occupied, bothKinds}
 use Rattle.masks.specs.Algorithm.Masks.{lineAt}
 
 -- fragment f calls columns a and c
@@ -31,3 +31,7 @@ mayFollow g (suc a) c = isnt (columnsConflict g a c)
 unfoldable pub wordsFollow : List ℕ → ℕ → ℕ → Bool
 wordsFollow words zero c = true
 wordsFollow words (suc a) c = isnt (bothKinds (lineAt words a) (lineAt words c))
+
+-- a column is mixed, by its words
+unfoldable pub wordsMixed : List ℕ → ℕ → Bool
+wordsMixed words c = occupied (lineAt words c .a) and occupied (lineAt words c .b)

@@ -17,12 +17,12 @@ use Rattle.snp_removal.proofs.programme.column.Statement.{statement}
 use Rattle.snp_removal.proofs.programme.column.Tie as tie
 
 abbrev Inv-loop : tie.InvT-loop
-Inv-loop masks counts₀ highs₀ lows₀ i out next j₀ counts highs lows j =
+Inv-loop columns counts₀ highs₀ lows₀ i out next j₀ counts highs lows j =
     (j ≤ next) × (length counts ≡ length counts₀) × (length highs ≡ length highs₀) × (length lows ≡ length lows₀) × (value out ≡ removal i)
-    × Sweep (λ j. ifFollows (wordsFollow masks j i) i (at counts₀ highs₀ lows₀) j) (at counts₀ highs₀ lows₀) (at counts highs lows) 0 j
+    × Sweep (λ j. ifFollows (wordsFollow columns j i) i (at counts₀ highs₀ lows₀) j) (at counts₀ highs₀ lows₀) (at counts highs lows) 0 j
 
 abbrev μ-loop : tie.MeasureT-loop
-μ-loop masks counts₀ highs₀ lows₀ i out next j₀ counts highs lows j = next - j
+μ-loop columns counts₀ highs₀ lows₀ i out next j₀ counts highs lows j = next - j
 
 loop-holds : tie.Need-loop-holds Inv-loop μ-loop
 loop-holds c = (search needs, refl, refl, refl, c .single .ensures ∙ omega arith, sweep-none _ _ 0)
@@ -56,7 +56,7 @@ loop-again c =
       l .inv .4,
       sweep-more zero-le (l .inv .5)
           (put-as (c .before .before .before .before .before .before .put .ensures .1)
-          (c .before .before .before .before .before .before .before .before .before .before .weight-at .ensures .0 ∙ turn (wordsFollow (a .masks .now) (l .j) (a .i)) (a .i) (l .j) (l .inv .5) (omega arith))),
+          (c .before .before .before .before .before .before .before .before .before .before .weight-at .ensures .0 ∙ turn (wordsFollow (a .columns .now) (l .j) (a .i)) (a .i) (l .j) (l .inv .5) (omega arith))),
     )
 
 returns : tie.Need-returns Inv-loop μ-loop
@@ -65,7 +65,7 @@ returns c =
     let a = c .before .before .before .before .before .before .before .args in
     let v = at (a .counts .now) (a .highs .now) (a .lows .now) in
     let e : l .j ≡ a .i + 1 = omega arith in
-    subst (Sweep (λ j. ifFollows (wordsFollow (a .masks .now) j (a .i)) (a .i) v j) v (at (l .counts) (l .highs) (l .lows)) 0) e (l .inv .5)
+    subst (Sweep (λ j. ifFollows (wordsFollow (a .columns .now) j (a .i)) (a .i) v j) v (at (l .counts) (l .highs) (l .lows)) 0) e (l .inv .5)
 
 pub column-spec : {M : Type 1} → statement M
 column-spec =

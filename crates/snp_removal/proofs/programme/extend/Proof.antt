@@ -3,35 +3,36 @@
 use borrow.Author.Needs.{needs}
 use mathlib.Core.Path.{refl, sym, _∙_}
 use native.Mathlib.Omega.{arith}
-use Rattle.matrix.specs.Algorithm.Matrix.{matrixGrid}
+use Rattle.masks.specs.Algorithm.Masks.{wordsGrid}
 use Rattle.ranks.specs.Algorithm.Tables.{at}
+use Rattle.snp_removal.proofs.PairLaws.{mixed-is}
 use Rattle.snp_removal.proofs.StateLaws.{holds-room, holds-mixed, holds-plain, by-words}
 use Rattle.snp_removal.proofs.programme.extend.Statement.{statement}
 use Rattle.snp_removal.proofs.programme.extend.Tie as tie
 
 column-requires : tie.Need-column-requires
-unfolding matrixGrid
+unfolding wordsGrid
 column-requires c κs =
     let s = c .before .before .before .before .before .before .before .before .before .before in
     let a = s .args in
-    (s .pre .3, search needs, s .pre .6, holds-room (matrixGrid (a .m) (a .n) (a .cells .now)) (a .k) _ (at (a .counts .now) (a .highs .now) (a .lows .now)) (s .pre .5) refl (s .pre .7) (s .pre .2))
+    (s .pre .2, search needs, s .pre .5, holds-room (wordsGrid (a .m) (a .n) (a .masks .now)) (a .k) _ (at (a .counts .now) (a .highs .now) (a .lows .now)) (s .pre .4) refl (s .pre .6) (s .pre .1))
 
 returns : tie.Need-returns
-unfolding matrixGrid
+unfolding wordsGrid
 returns c =
     let s = c .before .before .before .before .before .before .before .before .before .before .before .before .before .before .before .before .before in
     let a = s .args in
-    let g = matrixGrid (a .m) (a .n) (a .cells .now) in
-    holds-mixed g (a .k) _ (at (a .counts .now) (a .highs .now) (a .lows .now)) (s .pre .5) refl (s .pre .7) _
-    (sym (c .before .before .before .before .before .before .before .before .before .before .before .column-mixed .ensures (a .n)) ∙ c .before .before .before .before .before .before .before .before .before .before .if1 .taken) (by-words g (a .masks .now) _ (s .pre .4) (omega (arith, s .pre .5)) (c .before .before .before .before .before .before .column .ensures))
+    let g = wordsGrid (a .m) (a .n) (a .masks .now) in
+    holds-mixed g (a .k) _ (at (a .counts .now) (a .highs .now) (a .lows .now)) (s .pre .4) refl (s .pre .6) _
+    (mixed-is _ (a .columns .now) _ (s .pre .3) (omega (arith, s .pre .4)) (c .before .before .before .before .before .before .before .before .before .before .before .column-mixed .ensures) ∙ c .before .before .before .before .before .before .before .before .before .before .if1 .taken) (by-words g (a .columns .now) _ (s .pre .3) (omega (arith, s .pre .4)) (c .before .before .before .before .before .before .column .ensures))
 
 returns-2 : tie.Need-returns-2
-unfolding matrixGrid
+unfolding wordsGrid
 returns-2 c =
     let s = c .before .before .before .before .before .before .before in
     let a = s .args in
-    holds-plain (matrixGrid (a .m) (a .n) (a .cells .now)) (a .k) _ (at (a .counts .now) (a .highs .now) (a .lows .now)) (s .pre .5) refl (s .pre .7)
-    (sym (c .before .column-mixed .ensures (a .n)) ∙ c .if1 .left)
+    holds-plain (wordsGrid (a .m) (a .n) (a .masks .now)) (a .k) _ (at (a .counts .now) (a .highs .now) (a .lows .now)) (s .pre .4) refl (s .pre .6)
+    (mixed-is _ (a .columns .now) _ (s .pre .3) (omega (arith, s .pre .4)) (c .before .column-mixed .ensures) ∙ c .if1 .left)
 
 pub extend-spec : {M : Type 1} → statement M
 extend-spec =

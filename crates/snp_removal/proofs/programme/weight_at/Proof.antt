@@ -20,7 +20,7 @@ returns c =
     let s = c .before .before .before .before .before .before .before .before .before in
     let a = s .args in
     let v = at (a .counts .now) (a .highs .now) (a .lows .now) in
-    let may = wordsFollow (a .masks .now) (a .j) (a .i) in
+    let may = wordsFollow (a .columns .now) (a .j) (a .i) in
     let is : value (c .lesser-if .result) ≡ ifFollows may (a .i) v (a .j) =
     mixed-weight (a .i) (a .j) v _ may (c .before .may-follow .ensures) (c .before .before .before .before .get .ensures) (s .pre .3) (c .before .before .get2 .ensures) (c .before .before .before .plus .ensures) (c .lesser-if .ensures) in
     (is, count-fits may (a .i) (a .j) v (c .lesser-if .result) (s .pre .1) (search needs) (search needs) is (s .pre .5) (s .pre .6))
