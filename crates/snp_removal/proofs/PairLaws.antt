@@ -1,16 +1,17 @@
 -- The words of two columns say whether the columns are in conflict.
 -- Assumes nothing.
 use mathlib.Core.Path.{_≡_, refl, sym, ap, ap₂, _∙_}
-use mathlib.Core.Bool.{Bool, true, not}
+use mathlib.Core.Bool.{Bool, true, false, not}
 use mathlib.Core.List.{List}
 use mathlib.Core.Logic.{_⊎_, inl, inr}
 use Prim.Native.Nat.{ℕ, zero, suc, _-_, _≤_, _<_}
 use native.Mathlib.Omega.{arith}
 use lib.Dec.{T}
-use Rattle.below.specs.Below.{_==_, _and_, _or_, isnt, anyBelow}
+use Rattle.below.specs.Below.{if_then_else_, _==_, _<?_, _and_, _or_, isnt, anyBelow}
 use Rattle.fields.specs.Record.{isCall}
 use Rattle.below.proofs.BelowLaws.{both, left-of, right-of, or-left, or-right, or-cases, same-test, ==-eq, ==-refl, eq-==, isnt-==, ne-isnt, any-ext}
 use Rattle.conflicts.specs.Grid.{Grid, callsConflict, mixed}
+use Rattle.conflicts.specs.Tally.{noCalls, oneMore, tallied, mixedTally}
 use Rattle.places.specs.declared.places.Places.{Places}
 use Rattle.places.specs.declared.lines.Line.{Line}
 use Rattle.places.specs.Algorithm.Places.{placesWhere, occupied, conflictPlaces, agreePlaces, bothKinds}
@@ -85,6 +86,19 @@ words-mixed g words c masks h = ap₂ _and_ (one 1 (λ l. l .a) refl) (one 2 (λ
   where
     one : (letter : ℕ) (part : Line → Places) → part (lineOf (transposed g) c) ≡ placesWhere (hasLetter (transposed g) letter c) → occupied (part (lineAt words c)) ≡ anyBelow (g .m) (λ i. g .cell i c == letter)
     one letter part e = ap (λ (l : Line). occupied (part l)) (line-at (transposed g) c masks h) ∙ ap occupied (e ∙ letter-places (transposed g) letter c h) ∙ occupied-below (g .m) _ (masks .narrow)
+
+-- a tally of one call of each letter that occurs
+letters-tally : (a b : Bool) → mixedTally (tallied (tallied noCalls (if a then 1 else 0)) (if b then 2 else 0)) ≡ (a and b)
+unfolding mixedTally tallied oneMore _and_ _==_ _<?_
+letters-tally true true = refl
+letters-tally true false = refl
+letters-tally false true = refl
+letters-tally false false = refl
+
+pub tally-is : (words : List ℕ) (c : ℕ) {a b : Bool} {x y : ℕ} → a ≡ occupied (lineAt words c .a) → b ≡ occupied (lineAt words c .b) → x ≡ (if a then 1 else 0) → y ≡ (if b then 2 else 0)
+    → mixedTally (tallied (tallied noCalls x) y) ≡ wordsMixed words c
+unfolding wordsMixed
+tally-is words c {a} {b} ea eb ex ey = rw (ex, ey) (letters-tally a b ∙ ap₂ _and_ ea eb)
 
 pub mixed-is : (g : Grid) (words : List ℕ) (c : ℕ) {r : Bool} → Masks (transposed g) words → c < g .n → r ≡ wordsMixed words c → mixed g c ≡ r
 mixed-is g words c masks h e = sym (e ∙ words-mixed g words c masks h)
