@@ -1,3 +1,4 @@
 pub mod SweepLaws
 pub mod ComponentLaws
 pub mod StepLaws
+pub mod PassLaws

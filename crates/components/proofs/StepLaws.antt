@@ -1,20 +1,20 @@
--- What the loops of `alone` and `relabel` come to, and each way through `join`.
+-- What the loops of `alone` and `relabel` come to, and each way through `join_pair`.
 -- Assumes nothing.
 use mathlib.Core.Path.{_≡_, refl, sym, _∙_}
 use mathlib.Core.Logic.{inl, inr}
-use mathlib.Core.Bool.{Bool, true, false}
+use mathlib.Core.Bool.{Bool, true, false, not}
 use mathlib.Core.List.{List}
-use Prim.Native.Nat.{ℕ, _+_, _*_, _/_, _%_, _<_, _≤_}
+use Prim.Native.Nat.{ℕ, _<_, _≤_}
 use native.Mathlib.Omega.{arith}
-use lib.Dec.{T}
+use borrow.Author.Tests.{not-true, not-false}
 use Rattle.below.specs.Below.{if_then_else_, _<?_, _==_, nth}
-use Rattle.below.proofs.BelowLaws.{if-true, if-false, ==-eq, ==-refl, <?-lt, lt-<?, same-test}
-use Rattle.below.proofs.SearchLaws.{true-T}
+use Rattle.below.proofs.BelowLaws.{if-true, if-false, ==-eq, ==-refl, same-test}
+use Rattle.below.proofs.SearchLaws.{true-T, false-T}
 use Rattle.conflicts.specs.Choice.{marked}
-use Rattle.components.specs.Algorithm.Components.{marks, sideTurned, Joined, Within, Links, State, Step}
+use Rattle.components.specs.Algorithm.Components.{sideTurned, Joined, State, ByVerdict, Step}
 use Rattle.components.proofs.SweepLaws.{Remade}
 use Rattle.below.proofs.TestLaws.{if-eq, if-ne}
-use Rattle.components.proofs.ComponentLaws.{start, keep, clash, apart-now, join}
+use Rattle.components.proofs.ComponentLaws.{start, clash, settled-apart, join}
 
 -- ---- the loops
 
@@ -25,7 +25,7 @@ abbrev pub ownSide : List ℕ → ℕ → ℕ
 ownSide kept k = if 0 <? nth kept k then 1 else 0
 
 pub begun : (m : ℕ) → m ≤ 128 → (kept : List ℕ) {l₀ s₀ l s : List ℕ} (pair : ℕ → ℕ → Bool) → Remade (ownLabel kept) l₀ l m → Remade (ownSide kept) s₀ s m
-    → State m (marked kept) pair 0 true (nth l) (nth s)
+    → State m (marked kept) pair 0 (nth l) (nth s)
 unfolding marked
 begun m few kept pair a b =
     start m few (marked kept) pair
@@ -45,62 +45,31 @@ joined a b = record {
   left = λ k hk ne. (a .done k hk ∙ if-ne _ _ ne, b .done k hk ∙ if-ne _ _ ne);
 }
 
--- ---- the pair at place k
+-- ---- verdicts
+
+pub says-yes : {A B : Type 0} → A → ByVerdict true A B
+says-yes a = record { yes = λ e. a; no = λ e. absurd (false-T e tt) }
+
+pub says-no : {A B : Type 0} → B → ByVerdict false A B
+says-no b = record { yes = λ e. absurd (false-T (sym e) tt); no = λ e. b }
+
+-- ---- a pair
 
 ==-swap : (a b : ℕ) → (a == b) ≡ (b == a)
 ==-swap a b = same-test (a == b) (b == a) (λ t. rw (==-eq a b t) (==-refl b)) (λ t. rw (==-eq b a t) (==-refl a))
 
-module _ (m k : ℕ) (matrix : List ℕ) (few : m ≤ 128) (within : k < 16384) (bounds : Within m (marks matrix)) where
-  place-is : k / 128 * 128 + k % 128 ≡ k
-  place-is = omega arith
+module _ {m i j : ℕ} (few : m ≤ 128) (hij : i < j) (hj : j < m) {l s : ℕ → ℕ} (turn : Bool) (equal : turn ≡ (s i == s j)) where
+  pub step-up : {l′ s′ : ℕ → ℕ} → l i < l j → Joined m (l i) (l j) turn l s l′ s′ → Step m i j true l s l′ s′
+  step-up lower joins = record { on = λ kept pair links t st. says-yes (join m few kept pair links hij hj t st (inl (refl, refl)) lower equal joins) }
 
-  none-here : nth matrix k ≡ 0 → T (marks matrix (k / 128) (k % 128)) → ⊥
-  unfolding marks
-  none-here e t = let h = <?-lt 0 (nth matrix k) (rw place-is at t) in omega arith
+  pub step-down : {l′ s′ : ℕ → ℕ} → l j < l i → Joined m (l j) (l i) turn l s l′ s′ → Step m i j true l s l′ s′
+  step-down lower joins = record { on = λ kept pair links t st. says-yes (join m few kept pair links hij hj t st (inr (refl, refl)) lower (equal ∙ ==-swap (s i) (s j)) joins) }
 
-  module _ (hit : nth matrix k ≡ 0 → ⊥) where
-    pub here : T (marks matrix (k / 128) (k % 128))
-    unfolding marks
-    here = rw place-is (lt-<? 0 (nth matrix k) (omega arith))
-
-    pub inside : (k / 128 < m) × (k % 128 < m)
-    inside = bounds .inside (k / 128) (k % 128) (omega arith) here
-
-  module _ (ok : Bool) (l s : ℕ → ℕ) where
-    abbrev Next : Bool → (ℕ → ℕ) → (ℕ → ℕ) → Type 0
-    Next ok′ l′ s′ = Step m (marks matrix) k ok ok′ l s l′ s′
-
-    pub step-none : nth matrix k ≡ 0 → Next ok l s
-    step-none e = record { on = λ kept links st. keep m few kept (marks matrix) st (λ t. absurd (none-here e t)) (λ sd t. absurd (none-here e t)) }
-
-    module _ (hit : nth matrix k ≡ 0 → ⊥) (turn : Bool) (equal : turn ≡ (s (k / 128) == s (k % 128))) where
-      hp : k / 128 < m
-      hp = inside hit .0
-
-      hq : k % 128 < m
-      hq = inside hit .1
-
-      back : {kept : ℕ → Bool} → Links m kept (marks matrix) → T (marks matrix (k % 128) (k / 128))
-      back links = links .back (k / 128) (k % 128) hp hq (here hit)
-
-      pub step-up : {l′ s′ : ℕ → ℕ} → l (k / 128) < l (k % 128) → Joined m (l (k / 128)) (l (k % 128)) turn l s l′ s′ → Next ok l′ s′
-      step-up lower j = record { on = λ kept links st. join m few kept (marks matrix) st links (inl (refl, refl)) hp hq (back links) lower equal j }
-
-      pub step-down : {l′ s′ : ℕ → ℕ} → l (k % 128) < l (k / 128) → Joined m (l (k % 128)) (l (k / 128)) turn l s l′ s′ → Next ok l′ s′
-      step-down lower j = record {
-        on = λ kept links st. join m few kept (marks matrix) st links (inr (refl, refl)) hq hp (here hit) lower (equal ∙ ==-swap (s (k / 128)) (s (k % 128))) j;
-      }
-
-      pub step-no : l (k % 128) ≤ l (k / 128) → l (k / 128) ≤ l (k % 128) → turn ≡ true → Next false l s
-      step-no a b e = record {
-        on = λ kept links st.
-            clash m few kept (marks matrix) st within hp hq (links .ends (k / 128) (k % 128) hp hq (here hit)) (links .ends (k % 128) (k / 128) hq hp (back links)) (here hit) (omega arith)
-            (==-eq (s (k / 128)) (s (k % 128)) (true-T (sym equal ∙ e)));
-      }
-
-      pub step-apart : l (k % 128) ≤ l (k / 128) → l (k / 128) ≤ l (k % 128) → turn ≡ false → Next ok l s
-      step-apart a b e = record {
-        on = λ kept links st.
-            keep m few kept (marks matrix) st (λ t. omega arith)
-            (λ sd t. apart-now m few kept (marks matrix) st within hp hq (links .ends (k / 128) (k % 128) hp hq (here hit)) (links .ends (k % 128) (k / 128) hq hp (back links)) (here hit) turn equal e sd);
-      }
+  pub step-same : l j ≤ l i → l i ≤ l j → Step m i j (not turn) l s l s
+  step-same a b = record {
+    on = λ kept pair links t st.
+        record {
+          yes = λ e. settled-apart m few kept pair links hij hj t st (omega arith) turn equal (not-true turn e);
+          no = λ e. clash m few kept pair links hij hj t st (omega arith) (==-eq (s i) (s j) (true-T (sym equal ∙ not-false turn e)));
+        };
+  }

@@ -8,8 +8,7 @@ use native.Mathlib.Nat.{not-suc-le-zero}
 use borrow.Author.Count.{below-more}
 use lib.ListN.{length, set, length-set}
 use lib.Seq.{getD-set-same, getD-set-other}
-use Rattle.below.specs.Below.{if_then_else_, _<?_, _==_, nth}
-use Rattle.below.proofs.SearchLaws.{<?-true, <?-false, ==-true, ==-false}
+use Rattle.below.specs.Below.{nth}
 
 -- the places before k hold what f says, the others what they held
 pub record Remade (f : ℕ → ℕ) (old now : List ℕ) (k : ℕ) : Type 0 where

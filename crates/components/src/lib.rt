@@ -1,4 +1,4 @@
-// Components of related fragments, each with two sides, from a matrix of pairs.
+// Components of related fragments, each with two sides, from the masks of the fragments.
 mod quick_find;
 
 pub use quick_find::components;

@@ -1,11 +1,17 @@
 // Components of related fragments by quick-find: a label and a side for each fragment.
 ghost use mathlib.Core.Path.{_≡_};
 ghost use mathlib.Core.Bool.{Bool, true};
-ghost use Prim.Native.Nat.{ℕ, _<_, _≤_};
+ghost use Prim.Native.Nat.{ℕ, _+_, _*_, _<_, _≤_};
+ghost use lib.Dec.{T};
 ghost use lib.ListN.{length};
 ghost use Rattle.below.specs.Below.{if_then_else_, _==_, _<?_, nth};
 ghost use Rattle.conflicts.specs.Choice.{marked};
-ghost use Rattle.components.specs.Algorithm.Components.{marks, sideTurned, Joined, Within, Links, State, Step};
+ghost use Rattle.masks.specs.Algorithm.Masks.{lineAt};
+ghost use Rattle.components.specs.Algorithm.Components.{sideTurned, Joined, State, Step, Room, Passed, PassedOr};
+use masks::line_at;
+use places::Line;
+use places::Places;
+use places::conflict_kept;
 
 // The label of a fragment by itself.
 fn own_label(keep: u8, k: usize) -> u8
@@ -29,13 +35,13 @@ fn own_side(keep: u8) -> u8
 }
 
 // Every kept fragment by itself, on side 1.
-fn alone(m: usize, kept: &[u8], sides: &mut [u8], labels: &mut [u8])
-    requires { ⌜ (m ≤ 128) × (length (now kept) ≡ m) × (m ≤ length (now sides)) × (length (now labels) ≡ m) ⌝ }
-    ensures { λ _. ⌜ ((pair : ℕ → ℕ → Bool) → State m (marked (now (kept .entry))) pair 0 true (nth (now (labels .exit))) (nth (now (sides .exit)))) ⌝ }
+fn alone(m: usize, frags: &[u8], sides: &mut [u8], labels: &mut [u8])
+    requires { ⌜ (m ≤ 128) × (length (now frags) ≡ m) × (length (now sides) ≡ m) × (length (now labels) ≡ m) ⌝ }
+    ensures { λ _. ⌜ ((pair : ℕ → ℕ → Bool) → State m (marked (now (frags .entry))) pair 0 (nth (now (labels .exit))) (nth (now (sides .exit)))) ⌝ }
 {
     let mut k = 0;
     while k < m {
-        let keep = kept[k];
+        let keep = frags[k];
         labels[k] = own_label(keep, k);
         sides[k] = own_side(keep);
         k += 1;
@@ -83,7 +89,7 @@ fn new_side(x: u8, hi: u8, turn: bool, side: u8) -> u8
 
 // Takes the component hi into lo, its sides sideTurned over or not.
 fn relabel(m: usize, sides: &mut [u8], labels: &mut [u8], lo: u8, hi: u8, turn: bool)
-    requires { ⌜ (m ≤ length (now sides)) × (length (now labels) ≡ m) ⌝ }
+    requires { ⌜ (length (now sides) ≡ m) × (length (now labels) ≡ m) ⌝ }
     ensures { λ _. ⌜ Joined m lo hi turn (nth (now (labels .entry))) (nth (now (sides .entry))) (nth (now (labels .exit))) (nth (now (sides .exit))) ⌝ }
 {
     let mut k = 0;
@@ -95,45 +101,97 @@ fn relabel(m: usize, sides: &mut [u8], labels: &mut [u8], lo: u8, hi: u8, turn: 
     }
 }
 
-// Joins the pair at place k of the matrix. The verdict turns to no at a pair inside a component's side.
-fn join(m: usize, matrix: &[u8], sides: &mut [u8], labels: &mut [u8], ok: bool, k: usize) -> bool
-    requires { ⌜ (m ≤ 128) × (length (now matrix) ≡ 16384) × (m ≤ length (now sides)) × (length (now labels) ≡ m) × (k < 16384) × Within m (marks (now matrix)) ⌝ }
-    ensures { λ r. ⌜ Step m (marks (now (matrix .entry))) k ok r (nth (now (labels .entry))) (nth (now (sides .entry))) (nth (now (labels .exit))) (nth (now (sides .exit))) ⌝ }
+// Joins the components of fragments i and j, which are related. It is a no where they are on one side of one component.
+fn join_pair(m: usize, sides: &mut [u8], labels: &mut [u8], i: usize, j: usize) -> bool
+    requires { ⌜ (m ≤ 128) × (i < j) × (j < m) × (length (now sides) ≡ m) × (length (now labels) ≡ m) ⌝ }
+    ensures { λ r. ⌜ Step m i j r (nth (now (labels .entry))) (nth (now (sides .entry))) (nth (now (labels .exit))) (nth (now (sides .exit))) ⌝ }
 {
-    if matrix[k] == 0 {
-        return ok;
-    }
-    let i = k / 128;
-    let j = k % 128;
     let a = labels[i];
     let b = labels[j];
     let turn = equal(sides[i], sides[j]);
     if a < b {
         relabel(m, sides, labels, a, b, turn);
-        return ok;
+        return true;
     }
     if b < a {
         relabel(m, sides, labels, b, a, turn);
-        return ok;
+        return true;
     }
-    if turn {
-        return false;
-    }
-    ok
+    !turn
 }
 
-// The components of the kept fragments: the label of each is its component's lowest member. On a yes the sides put every pair apart; on a no none do.
-pub fn components(m: usize, matrix: &[u8], kept: &[u8], sides: &mut [u8], labels: &mut [u8]) -> bool
-    requires { ⌜ (m ≤ 128) × (length (now matrix) ≡ 16384) × (length (now kept) ≡ m) × (m ≤ length (now sides)) × (length (now labels) ≡ m)
-        × Within m (marks (now matrix)) × Links m (marked (now kept)) (marks (now matrix)) ⌝ }
-    ensures { λ r. ⌜ State m (marked (now (kept .entry))) (marks (now (matrix .entry))) 16384 r (nth (now (labels .exit))) (nth (now (sides .exit))) ⌝ }
+// Joins fragments i and j if they are related. Fragment i is kept, and its line is at hand.
+fn join(
+    m: usize,
+    masks: &[u64],
+    keep: Places,
+    frags: &[u8],
+    sides: &mut [u8],
+    labels: &mut [u8],
+    i: usize,
+    first: Line,
+    j: usize,
+) -> bool
+    requires { ⌜ Room m (now masks) (now frags) (now sides) (now labels) × (i < j) × (j < m) × T (marked (now frags) i) × (first ≡ lineAt (now masks) i)
+        × Passed m (now masks) keep (now frags) (i * 128 + j) (now sides) (now labels) ⌝ }
+    ensures { λ r. ⌜ PassedOr r m (now (masks .entry)) keep (now (frags .entry)) (i * 128 + (j + 1)) (now (sides .exit)) (now (labels .exit)) ⌝ }
 {
-    alone(m, kept, sides, labels);
-    let mut ok = true;
-    let mut k = 0;
-    while k < 16384 {
-        ok = join(m, matrix, sides, labels, ok, k);
-        k += 1;
+    if frags[j] == 0 {
+        return true;
     }
-    ok
+    if conflict_kept(first, line_at(masks, j), keep) {
+        return join_pair(m, sides, labels, i, j);
+    }
+    true
+}
+
+// Joins fragment i with the later ones that it is related to.
+fn join_row(
+    m: usize,
+    masks: &[u64],
+    keep: Places,
+    frags: &[u8],
+    sides: &mut [u8],
+    labels: &mut [u8],
+    i: usize,
+) -> bool
+    requires { ⌜ Room m (now masks) (now frags) (now sides) (now labels) × (i < m) × Passed m (now masks) keep (now frags) (i * 128) (now sides) (now labels) ⌝ }
+    ensures { λ r. ⌜ PassedOr r m (now (masks .entry)) keep (now (frags .entry)) ((i + 1) * 128) (now (sides .exit)) (now (labels .exit)) ⌝ }
+{
+    if frags[i] == 0 {
+        return true;
+    }
+    let first = line_at(masks, i);
+    let mut j = i + 1;
+    while j < m {
+        if !join(m, masks, keep, frags, sides, labels, i, first, j) {
+            return false;
+        }
+        j += 1;
+    }
+    true
+}
+
+// The components of the kept fragments, which end at the first pair that no sides put apart: that is a no.
+// On a yes the sides put every pair apart, and the label of each fragment is its component's lowest member.
+pub fn components(
+    m: usize,
+    masks: &[u64],
+    keep: Places,
+    frags: &[u8],
+    sides: &mut [u8],
+    labels: &mut [u8],
+) -> bool
+    requires { ⌜ Room m (now masks) (now frags) (now sides) (now labels) ⌝ }
+    ensures { λ r. ⌜ PassedOr r m (now (masks .entry)) keep (now (frags .entry)) 16384 (now (sides .exit)) (now (labels .exit)) ⌝ }
+{
+    alone(m, frags, sides, labels);
+    let mut i = 0;
+    while i < m {
+        if !join_row(m, masks, keep, frags, sides, labels, i) {
+            return false;
+        }
+        i += 1;
+    }
+    true
 }

@@ -19,10 +19,10 @@ use Rattle.conflicts.specs.Blocks.{linked}
 use Rattle.conflicts.proofs.CountLaws.{kept-counted}
 use Rattle.places.specs.declared.places.Places.{Places}
 use Rattle.places.specs.declared.lines.Line.{Line}
-use Rattle.places.specs.Algorithm.Places.{bothOf, eitherOf, size, conflictPlaces, conflictSize}
+use Rattle.places.specs.Algorithm.Places.{bothOf, size, conflictSize}
 use Rattle.masks.specs.Algorithm.Masks.{lineAt}
 use Rattle.masks.specs.Algorithm.Pairs.{pairNumber, Numbered, pairMatrix, Compared}
-use Rattle.places.proofs.PlaceLaws.{both-comm, either-comm}
+use Rattle.places.proofs.PlaceLaws.{conflict-comm}
 use Rattle.masks.proofs.LineLaws.{conflicts-where}
 
 -- ---- keep marks of two fragments
@@ -76,10 +76,6 @@ numbered-at {number} i j w hj h =
     w .done (i * 128 + j) h ∙ ap₂ number p q
 
 -- the same both ways
-conflict-comm : (x y : Line) → conflictPlaces x y ≡ conflictPlaces y x
-unfolding conflictPlaces
-conflict-comm x y = ap₂ eitherOf (both-comm (x .a) (y .b)) (both-comm (x .b) (y .a)) ∙ either-comm _ _
-
 size-comm : (keep : Places) (x y : Line) → conflictSize keep x y ≡ conflictSize keep y x
 unfolding conflictSize
 size-comm keep x y = ap (λ (p : Places). size (bothOf keep p)) (conflict-comm x y)

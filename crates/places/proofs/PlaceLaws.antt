@@ -9,8 +9,9 @@ use Rattle.below.specs.Below.{_<?_, _and_, _or_, anyBelow, countBelow}
 use Rattle.below.proofs.BelowLaws.{count-ext}
 use Rattle.below.proofs.CountLaws.{sum-pos, count-any, count-add, count-within}
 use Rattle.places.specs.declared.places.Places.{Places}
+use Rattle.places.specs.declared.lines.Line.{Line}
 use Rattle.places.specs.Algorithm.Words.{halfWord}
-use Rattle.places.specs.Algorithm.Places.{placesWhere, bothOf, eitherOf, size, occupied}
+use Rattle.places.specs.Algorithm.Places.{placesWhere, bothOf, eitherOf, size, occupied, conflictPlaces}
 use Rattle.places.proofs.WordLaws.{word-ext, and-word, or-word, ones-word, word-any, either-pos}
 
 -- ---- two words
@@ -38,6 +39,11 @@ both-comm x y = ap₂ places (and-comm (x .low) (y .low)) (and-comm (x .high) (y
 pub either-comm : (x y : Places) → eitherOf x y ≡ eitherOf y x
 unfolding eitherOf
 either-comm x y = ap₂ places (or-comm (x .low) (y .low)) (or-comm (x .high) (y .high))
+
+-- two lines conflict both ways
+pub conflict-comm : (x y : Line) → conflictPlaces x y ≡ conflictPlaces y x
+unfolding conflictPlaces
+conflict-comm x y = ap₂ eitherOf (both-comm (x .a) (y .b)) (both-comm (x .b) (y .a)) ∙ either-comm _ _
 
 -- ---- tests of the places below n
 

@@ -1,7 +1,7 @@
 // Two lines of a matrix, fragments or columns, compared by the places at which they have A and at which they have B.
 ghost use mathlib.Core.Path.{_≡_};
 ghost use Prim.Native.Nat.{_≤_};
-ghost use Rattle.places.specs.Algorithm.Places.{conflictPlaces, agreePlaces, conflictSize, bothKinds};
+ghost use Rattle.places.specs.Algorithm.Places.{conflictPlaces, agreePlaces, eitherLine, conflictKept, conflictSize, bothKinds};
 use crate::places::Places;
 
 pub struct Line {
@@ -25,6 +25,24 @@ impl Line {
         let one = self.a.both(other.a);
         one.either(self.b.both(other.b))
     }
+
+    // Where either line has A, and where either has B.
+    pub fn either(self, other: Line) -> Line
+        ensures { λ r. ⌜ r ≡ eitherLine self other ⌝ }
+    {
+        Line {
+            a: self.a.either(other.a),
+            b: self.b.either(other.b),
+        }
+    }
+}
+
+// Whether two lines conflict at a kept place.
+pub fn conflict_kept(first: Line, second: Line, keep: Places) -> bool
+    ensures { λ r. ⌜ r ≡ conflictKept keep first second ⌝ }
+{
+    let conflicts = first.conflicts(second);
+    keep.both(conflicts).any()
 }
 
 // At how many of the kept places two lines conflict.
@@ -32,8 +50,8 @@ pub fn conflict_count(first: Line, second: Line, keep: Places) -> u32
     ensures number { λ r. ⌜ r ≡ conflictSize keep first second ⌝ }
     ensures most { λ r. ⌜ r ≤ 128 ⌝ }
 {
-    let conflicts = first.conflicts(second);
-    keep.both(conflicts).count()
+    let places = first.conflicts(second);
+    keep.both(places).count()
 }
 
 // Whether two columns are in conflict: some fragment has one letter at both, and some has two (paper 001, section 3.1).

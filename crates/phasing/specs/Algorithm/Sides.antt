@@ -9,8 +9,8 @@ use Rattle.conflicts.specs.Grid.{Grid}
 use Rattle.conflicts.specs.Sides.{errorFree, firstSides}
 use Rattle.conflicts.specs.Blocks.{block}
 
--- the verdict is "error-free"; on a yes the "first lawful side list"; and the blocks of the kept fragments, 255 for a removed one
+-- the verdict is "error-free"; on a yes the "first lawful side list", and the blocks of the kept fragments, 255 for a removed one
 pub record SidesFound (g : Grid) (keepCols keepFrags : List ℕ) (ok : Bool) (sides blocks : List ℕ) : Type 0 where
   pub verdict : ok ≡ errorFree 2 g keepCols keepFrags
   pub sides-are : ok ≡ true → sides ≡ firstSides 2 g keepCols keepFrags
-  pub blocks-are : blocks ≡ tab (g .m) (block g keepCols keepFrags)
+  pub blocks-are : ok ≡ true → blocks ≡ tab (g .m) (block g keepCols keepFrags)

@@ -47,6 +47,14 @@ conflictPlaces x y = eitherOf (bothOf (x .a) (y .b)) (bothOf (x .b) (y .a))
 unfoldable pub agreePlaces : Line → Line → Places
 agreePlaces x y = eitherOf (bothOf (x .a) (y .a)) (bothOf (x .b) (y .b))
 
+-- where either line has A, and where either has B
+unfoldable pub eitherLine : Line → Line → Line
+eitherLine x y = record { a = eitherOf (x .a) (y .a); b = eitherOf (x .b) (y .b) }
+
+-- two lines conflict at a kept place
+unfoldable pub conflictKept : Places → Line → Line → Bool
+conflictKept keep x y = occupied (bothOf keep (conflictPlaces x y))
+
 -- at how many kept places two lines conflict
 unfoldable pub conflictSize : Places → Line → Line → ℕ
 conflictSize keep x y = size (bothOf keep (conflictPlaces x y))

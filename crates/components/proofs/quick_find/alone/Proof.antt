@@ -10,10 +10,10 @@ use Rattle.components.proofs.quick_find.alone.Statement.{statement}
 use Rattle.components.proofs.quick_find.alone.Tie as tie
 
 abbrev Inv-loop : tie.InvT-loop
-Inv-loop m kept sides₀ labels₀ k₀ sides labels k = (k ≤ m) × Remade (ownLabel kept) labels₀ labels k × Remade (ownSide kept) sides₀ sides k
+Inv-loop m frags sides₀ labels₀ k₀ sides labels k = (k ≤ m) × Remade (ownLabel frags) labels₀ labels k × Remade (ownSide frags) sides₀ sides k
 
 abbrev μ-loop : tie.MeasureT-loop
-μ-loop m kept sides₀ labels₀ k₀ sides labels k = m - k
+μ-loop m frags sides₀ labels₀ k₀ sides labels k = m - k
 
 loop-holds : tie.Need-loop-holds Inv-loop μ-loop
 loop-holds c = (search needs, sweep-none _ _, sweep-none _ _)
@@ -44,7 +44,7 @@ returns c =
     let lp = c .before .loop in
     let a = start .args in
     let e : lp .k ≡ a .m = omega arith in
-    λ pair. begun (a .m) (start .pre .0) (a .kept .now) pair (rw e at (lp .inv .1)) (rw e at (lp .inv .2))
+    λ pair. begun (a .m) (start .pre .0) (a .frags .now) pair (rw e at (lp .inv .1)) (rw e at (lp .inv .2))
 
 pub alone-spec : {M : Type 1} → statement M
 alone-spec =

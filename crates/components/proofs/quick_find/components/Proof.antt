@@ -1,46 +1,45 @@
--- `quick_find::components` meets its contract. The invariant is the state after the places passed.
+-- `quick_find::components` meets its contract. The invariant is the state after the rows passed.
 -- Assumes nothing.
-use native.Mathlib.Omega.{arith}
 use borrow.Author.Needs.{needs}
-use Prim.Native.Nat.{_-_, _≤_}
+use borrow.Author.Tests.{not-true, not-false}
 use mathlib.Core.Path.{_≡_}
+use Prim.Native.Nat.{_*_, _-_, _≤_}
 use lib.ListN.{length}
-use Rattle.conflicts.specs.Choice.{marked}
-use Rattle.components.specs.Algorithm.Components.{marks, State}
-use Rattle.below.specs.Below.{nth}
+use Rattle.components.specs.Algorithm.Components.{related, Passed}
+use Rattle.components.proofs.StepLaws.{says-yes, says-no}
+use Rattle.components.proofs.PassLaws.{rows-end}
 use Rattle.components.proofs.quick_find.components.Statement.{statement}
 use Rattle.components.proofs.quick_find.components.Tie as tie
 
 abbrev Inv-loop : tie.InvT-loop
-Inv-loop m matrix kept sides₀ labels₀ ok₀ k₀ sides labels ok k = (k ≤ 16384) × (length sides ≡ length sides₀) × (length labels ≡ length labels₀) × State m (marked kept) (marks matrix) k ok (nth labels) (nth sides)
+Inv-loop m masks keep frags sides₀ labels₀ i₀ sides labels i = (i ≤ m) × (length sides ≡ m) × (length labels ≡ m) × Passed m masks keep frags (i * 128) sides labels
 
 abbrev μ-loop : tie.MeasureT-loop
-μ-loop m matrix kept sides₀ labels₀ ok₀ k₀ sides labels ok k = 16384 - k
+μ-loop m masks keep frags sides₀ labels₀ i₀ sides labels i = m - i
 
 loop-holds : tie.Need-loop-holds Inv-loop μ-loop
 loop-holds c =
-    let alone = c .before .before .before .before .alone in
-    let start = c .before .before .before .before .before .before .before .before .before .before .before in
-    (search needs, search needs, search needs, alone .ensures (marks (start .args .matrix .now)))
+    let a = c .before .before .before .before .before .before .before .before .before .before .before .args in
+    let p = c .before .before .before .before .before .before .before .before .before .before .before .pre in
+    (search needs, search needs, search needs, c .before .before .before .before .alone .ensures (related (a .masks .now) (a .keep) (a .frags .now)))
 
-join-requires : tie.Need-join-requires Inv-loop μ-loop
-join-requires c κs =
+join-row-requires : tie.Need-join-row-requires Inv-loop μ-loop
+join-row-requires c κs =
     let p = c .before .before .before .before .before .before .before .before .before .before .before .before .before .before .before .pre in
-    (p .0, p .1, search needs, search needs, search needs, p .5)
-
-loop-again : tie.Need-loop-again Inv-loop μ-loop
-loop-again c =
-    let join = c .before .before .before .before .join in
-    let loop = c .before .before .before .before .before .before .before .before .loop in
-    let start = c .before .before .before .before .before .before .before .before .before .before .before .before .before .before .before .before .before .before .before .before in
-    let a = start .args in
-    (search needs, search needs, search needs, join .ensures .on (marked (a .kept .now)) (start .pre .6) (loop .inv .3))
+    let inv = c .before .before .before .loop .inv in
+    (record { few = p .few; long = p .long; marks = p .marks; sided = inv .1; labelled = inv .2 }, c .before .before .loop-test .taken, inv .3)
 
 returns : tie.Need-returns Inv-loop μ-loop
-returns c =
-    let lp = c .before .loop in
-    let e : lp .k ≡ 16384 = omega arith in
-    rw e at (lp .inv .3)
+returns c = says-no (c .before .before .before .before .before .join-row .ensures .no (not-true _ (c .if1 .taken)))
+
+loop-again : tie.Need-loop-again Inv-loop μ-loop
+loop-again c = (search needs, search needs, search needs, c .before .before .before .before .before .join-row .ensures .yes (not-false _ (c .if1 .left)))
+
+returns-2 : tie.Need-returns-2 Inv-loop μ-loop
+returns-2 c =
+    let a = c .before .before .before .before .before .before .before .before .before .before .before .before .before .args in
+    let loop = c .before .loop in
+    says-yes (rows-end (a .masks .now) (a .keep) (a .frags .now) (c .before .before .before .before .before .before .before .before .before .before .before .before .before .pre .few) (loop .i) (loop .inv .0) (c .loop-test .left) (loop .inv .3))
 
 pub components-spec : {M : Type 1} → statement M
 components-spec =
@@ -50,10 +49,13 @@ components-spec =
     μ-loop
     (λ c κs. search needs)
     loop-holds
-    join-requires
+    join-row-requires
+    (λ c. search needs)
+    (λ c. search needs)
+    returns
     (λ c. search needs)
     (λ c. search needs)
     loop-again
     (λ c. search needs)
     (λ c. search needs)
-    returns)
+    returns-2)

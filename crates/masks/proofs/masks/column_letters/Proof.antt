@@ -39,17 +39,19 @@ loop-again : tie.Need-loop-again Inv-loop μ-loop
 loop-again c =
     let a = c .before .before .before .before .before .before .before .before .args in
     let lp = c .before .before .before .before .before .before .loop in
-    let line = c .before .before .before .before .line-at .ensures in
-    (search needs,
-     word-next (lp .k) (λ b. hasPlace (lineAt (a .masks .now) (a .start + b) .a) (a .c)) (lp .inv .1) (c .before .before .before .has .ensures ∙ ap (λ (x : Line). hasPlace (x .a) (a .c)) line) (c .before .before .with-bit .ensures),
-     word-next (lp .k) (λ b. hasPlace (lineAt (a .masks .now) (a .start + b) .b) (a .c)) (lp .inv .2) (c .before .has2 .ensures ∙ ap (λ (x : Line). hasPlace (x .b) (a .c)) line) (c .with-bit2 .ensures))
+    let line = c .before .before .before .before .line-at .ensures in (
+      search needs,
+      word-next (lp .k) (λ b. hasPlace (lineAt (a .masks .now) (a .start + b) .a) (a .c)) (lp .inv .1) (c .before .before .before .has .ensures ∙ ap (λ (x : Line). hasPlace (x .a) (a .c)) line) (c .before .before .with-bit .ensures),
+      word-next (lp .k) (λ b. hasPlace (lineAt (a .masks .now) (a .start + b) .b) (a .c)) (lp .inv .2) (c .before .has2 .ensures ∙ ap (λ (x : Line). hasPlace (x .b) (a .c)) line) (c .with-bit2 .ensures),
+    )
 
 returns : tie.Need-returns Inv-loop μ-loop
 returns c =
     let a = c .before .before .before .args in
-    let lp = c .before .loop in
-    (word-end (lp .k) 64 (λ b. hasPlace (lineAt (a .masks .now) (a .start + b) .a) (a .c)) (lp .inv .0) (c .loop-test .left) (lp .inv .1),
-     word-end (lp .k) 64 (λ b. hasPlace (lineAt (a .masks .now) (a .start + b) .b) (a .c)) (lp .inv .0) (c .loop-test .left) (lp .inv .2))
+    let lp = c .before .loop in (
+      word-end (lp .k) 64 (λ b. hasPlace (lineAt (a .masks .now) (a .start + b) .a) (a .c)) (lp .inv .0) (c .loop-test .left) (lp .inv .1),
+      word-end (lp .k) 64 (λ b. hasPlace (lineAt (a .masks .now) (a .start + b) .b) (a .c)) (lp .inv .0) (c .loop-test .left) (lp .inv .2),
+    )
 
 pub column-letters-spec : {M : Type 1} → statement M
 column-letters-spec =

@@ -22,11 +22,13 @@ put-line-requires c κs = (c .before .before .before .loop .inv .1 .sized, searc
 
 loop-again : tie.Need-loop-again Inv-loop μ-loop
 loop-again c =
-    let lp = c .before .before .before .before .before .before .loop in
-    (search needs, record {
-      sized = (let e = lp .inv .1 .sized in search needs);
-      begun = λ g masks. c .before .before .put-line .ensures (transposed g) (c .before .before .before .column-line .ensures g masks) (lp .inv .1 .begun g masks);
-    })
+    let lp = c .before .before .before .before .before .before .loop in (
+      search needs,
+      record {
+        sized = (let e = lp .inv .1 .sized in search needs);
+        begun = λ g masks. c .before .before .put-line .ensures (transposed g) (c .before .before .before .column-line .ensures g masks) (lp .inv .1 .begun g masks);
+      },
+    )
 
 same-length : tie.Need-same-length Inv-loop μ-loop
 same-length c = let e = c .before .loop .inv .1 .sized in search needs

@@ -24,11 +24,13 @@ put-line-requires c κs = (c .before .before .before .loop .inv .1 .sized, searc
 loop-again : tie.Need-loop-again Inv-loop μ-loop
 loop-again c =
     let t = c .before .before .before .before .before .before .before .before .before .args .table .now in
-    let lp = c .before .before .before .before .before .before .loop in
-    (search needs, record {
-      sized = (let e = lp .inv .1 .sized in search needs);
-      begun = λ n narrow kept. c .before .before .put-line .ensures (gridOf n t) (c .before .before .before .line-of .ensures n narrow kept) (lp .inv .1 .begun n narrow kept);
-    })
+    let lp = c .before .before .before .before .before .before .loop in (
+      search needs,
+      record {
+        sized = (let e = lp .inv .1 .sized in search needs);
+        begun = λ n narrow kept. c .before .before .put-line .ensures (gridOf n t) (c .before .before .before .line-of .ensures n narrow kept) (lp .inv .1 .begun n narrow kept);
+      },
+    )
 
 same-length : tie.Need-same-length Inv-loop μ-loop
 same-length c = let e = c .before .loop .inv .1 .sized in search needs

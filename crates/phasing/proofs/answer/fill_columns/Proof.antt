@@ -1,22 +1,17 @@
 -- `answer::fill_columns` meets its contract.
 -- Assumes nothing.
 use borrow.Author.Needs.{needs}
-use mathlib.Core.Path.{_∙_}
 use Prim.Native.Nat.{_+_}
-use Rattle.matrix.specs.Algorithm.Matrix.{matrixGrid}
-use Rattle.phasing.proofs.SectionLaws.{three-fill, columns-are}
+use Rattle.phasing.proofs.SectionLaws.{three-fill}
 use Rattle.phasing.proofs.answer.fill_columns.Statement.{statement}
 use Rattle.phasing.proofs.answer.fill_columns.Tie as tie
 
 returns : tie.Need-returns
-unfolding matrixGrid
 returns c =
-    let fill-haplotype = c .before .before .before .before .before .before .fill-haplotype in
     let copy = c .before .before .before .before .before .before .before .before .before .before .copy in
     let start = c .before .before .before .before .before .before .before .before .before .before .before .before .before .before .before .before in
     let a = start .args in
-    three-fill (a .bytes .now) (copy .ensures) (fill-haplotype .ensures) (a .n) (rw (copy .ensures) (start .pre .0 .columns)) (c .before .before .fill-haplotype2 .ensures) (a .n + a .n) (search needs)
-    ∙ columns-are (matrixGrid (a .m) (a .n) (a .cells .now)) (a .cols .now) (a .sides .now)
+    three-fill (a .bytes .now) (copy .ensures) (c .before .before .before .before .before .before .fill-haplotype .ensures) (a .n) (rw (copy .ensures) (start .pre .0 .columns)) (c .before .before .fill-haplotype2 .ensures) (a .n + a .n) (search needs)
 
 pub fill-columns-spec : {M : Type 1} → statement M
 fill-columns-spec =

@@ -1,11 +1,9 @@
 -- `answer::fill_parts` meets its contract.
 -- Assumes nothing.
 use borrow.Author.Needs.{needs}
-use mathlib.Core.Path.{_∙_}
-use mathlib.Core.List.{append-assoc}
 use Prim.Native.Nat.{_+_}
-use Rattle.matrix.specs.Algorithm.Matrix.{matrixGrid}
-use Rattle.conflicts.specs.Answer.{answerSize, answer}
+use Rattle.conflicts.specs.Answer.{answerSize}
+use Rattle.phasing.specs.Algorithm.Haplotypes.{sections}
 use Rattle.phasing.proofs.SectionLaws.{three-fill}
 use Rattle.phasing.proofs.answer.fill_parts.Statement.{statement}
 use Rattle.phasing.proofs.answer.fill_parts.Tie as tie
@@ -31,14 +29,12 @@ unfolding answerSize
 copy-requires-2 c κs = search needs
 
 returns : tie.Need-returns
-unfolding answer matrixGrid
+unfolding sections
 returns c =
     let start = c .before .before .before .before .before .before .before .before .before .before .before .before .before .before .before .before .before in
     let a = start .args in
-    λ are.
     three-fill (a .bytes .now) (c .before .before .before .before .before .before .before .before .before .before .fill-columns .ensures) (c .before .before .before .before .before .before .copy .ensures) (a .n + a .n + a .n) (search needs)
-    (c .before .before .copy2 .ensures ∙ are) (a .n + a .n + a .n + a .m) (search needs)
-    ∙ simp append-assoc
+    (c .before .before .copy2 .ensures) (a .n + a .n + a .n + a .m) (search needs)
 
 pub fill-parts-spec : {M : Type 1} → statement M
 fill-parts-spec =
