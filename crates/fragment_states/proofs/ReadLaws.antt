@@ -1,39 +1,37 @@
--- What is read of a fragment's row, which looks only at its n columns, and of a side's state.
+-- What is read of a fragment's words and of a side's state.
 -- Assumes nothing.
-use mathlib.Core.Path.{_≡_, refl, sym, ap, ap₂, subst, _∙_}
-use mathlib.Core.Bool.{Bool, not}
+use mathlib.Core.Path.{_≡_, refl, sym, ap, ap₂, _∙_}
+use mathlib.Core.Bool.{Bool, true, false}
 use mathlib.Core.List.{List}
-use Prim.Native.Nat.{ℕ, zero, suc, _+_, _*_, _-_, _≤_, _<_}
+use Prim.Native.Nat.{ℕ, zero, suc, _-_, _≤_, _<_}
 use native.Mathlib.Omega.{arith}
-use lib.ListN.{length, getD, take, drop, length-drop}
-use lib.Seq.{getD-take, getD-drop, length-take-le}
-use Rattle.below.specs.Below.{if_then_else_, bit, isnt, endBelow, _==_, _<?_}
+use Rattle.below.specs.Below.{if_then_else_, bit, _==_, _or_, isnt}
 use Rattle.fields.specs.Record.{isCall}
-use Rattle.fields.specs.Writing.{callsEnd, codesOf}
-use Rattle.below.proofs.SearchLaws.{==-true, ==-false, <?-true, <?-false}
-use Rattle.records.proofs.ExtentLaws.{endBelow-le}
-use Rattle.conflicts.specs.Grid.{Grid, agree}
-use Rattle.matrix.specs.Algorithm.Matrix.{matrixGrid}
-use Rattle.conflicts.proofs.CountLaws.{conflict-counted}
-use Rattle.masks.specs.Algorithm.Masks.{Masks}
-use Rattle.masks.proofs.LineLaws.{all-conflicts}
+use Rattle.fields.specs.Writing.{callsEnd}
+use Rattle.conflicts.specs.Grid.{Grid, conflictOn, conflict, agree}
+use Rattle.places.specs.declared.lines.Line.{Line}
+use Rattle.places.specs.Algorithm.Places.{hasPlace, occupied, conflictPlaces}
+use Rattle.places.proofs.PlaceLaws.{occupied-below}
+use Rattle.masks.specs.Algorithm.Masks.{lineAt, Masks, codeIn, wordsGrid}
+use Rattle.masks.proofs.LineLaws.{line-at, lines-conflict}
 use Rattle.fragment_states.specs.Algorithm.Fragments.{reach, stateReach, mayJoin, wordsAgree, wordsJoin}
 
--- ---- a row
+-- ---- a call of a line
 
-end-ext : (n : ℕ) (p q : ℕ → Bool) → ((c : ℕ) → c < n → p c ≡ q c) → endBelow n p ≡ endBelow n q
-unfolding endBelow
-end-ext zero p q h = refl
-end-ext (suc n) p q h = ap₂ (λ (r : ℕ) (b : Bool). if b then suc n else r) (end-ext n p q (λ c l. h c (omega arith))) (h n (omega arith))
+letter-call : (a b : Bool) → isCall (if a then 1 else if b then 2 else 0) ≡ (a or b)
+unfolding isCall _==_ _or_
+letter-call true b = refl
+letter-call false true = refl
+letter-call false false = refl
 
--- how far a fragment reaches, by the part of the cells that is its row
-reach-read : (n : ℕ) (cells : List ℕ) (p k : ℕ) → k ≡ n → p * 128 + n ≤ 16384 → length cells ≡ 16384
-    → callsEnd (length (take k (drop (p * 128) cells))) (codesOf (take k (drop (p * 128) cells))) ≡ callsEnd n (λ c. getD cells (p * 128 + c) 0)
-unfolding callsEnd
-reach-read n cells p k e inside size =
-    let row = drop (p * 128) cells in
-    let long : length (take k row) ≡ n = length-take-le k row (let d = length-drop (p * 128) cells in omega arith) ∙ e in
-    ap (λ (x : ℕ). callsEnd x (codesOf (take k row))) long ∙ end-ext n _ _ (λ c h. ap isCall (getD-take k row c 0 (omega arith) ∙ getD-drop (p * 128) cells c 0))
+module _ (line : Line) (c : ℕ) where
+  pub has-first : hasPlace (line .a) c ≡ true → true ≡ isCall (codeIn line c)
+  unfolding codeIn _or_
+  has-first e = sym (letter-call (hasPlace (line .a) c) (hasPlace (line .b) c) ∙ ap (λ (a : Bool). a or hasPlace (line .b) c) e)
+
+  pub has-second : hasPlace (line .a) c ≡ false → hasPlace (line .b) c ≡ isCall (codeIn line c)
+  unfolding codeIn _or_
+  has-second e = sym (letter-call (hasPlace (line .a) c) (hasPlace (line .b) c) ∙ ap (λ (a : Bool). a or hasPlace (line .b) c) e)
 
 -- ---- a side's state
 
@@ -44,12 +42,9 @@ pub state-none : (g : Grid) (s : ℕ) → s ≡ 0 → 0 ≡ stateReach g s
 unfolding stateReach
 state-none g s e = rw e
 
-pub state-some : (n : ℕ) (cells : List ℕ) (s k : ℕ) {r : ℕ} → 0 < s → s ≤ 128 → n ≤ 128 → k ≡ n → length cells ≡ 16384
-    → r ≡ callsEnd (length (take k (drop ((s - 1) * 128) cells))) (codesOf (take k (drop ((s - 1) * 128) cells))) → ((m : ℕ) → r ≡ stateReach (matrixGrid m n cells) s) × (r ≤ n)
-unfolding reach stateReach matrixGrid callsEnd
-state-some n cells s k h hs hn e size is =
-    let far = is ∙ reach-read n cells (s - 1) k e (omega arith) size in
-    (λ m. far ∙ ap (stateReach (matrixGrid m n cells)) (sym (suc-of s h)), subst (λ (x : ℕ). x ≤ n) (sym far) (endBelow-le n _))
+pub state-some : (m n : ℕ) (words : List ℕ) (s : ℕ) {line : Line} {r : ℕ} → 0 < s → line ≡ lineAt words (s - 1) → r ≡ callsEnd n (codeIn line) → r ≡ stateReach (wordsGrid m n words) s
+unfolding reach stateReach wordsGrid
+state-some m n words s h is e = e ∙ ap (λ (l : Line). callsEnd n (codeIn l)) is ∙ ap (stateReach (wordsGrid m n words)) (sym (suc-of s h))
 
 -- ---- agreement by the words of the fragments
 
@@ -62,16 +57,11 @@ module _ (words : List ℕ) (s i : ℕ) where
   unfolding wordsJoin
   join-some h is = is ∙ ap (λ (x : ℕ). wordsJoin words x i) (sym (suc-of s h))
 
--- a count is 0 where it is not over 0
-zero-isnt : (k : ℕ) → (k == 0) ≡ isnt (0 <? k)
-unfolding isnt
-zero-isnt zero = ==-true 0 0 refl ∙ sym (ap not (<?-false 0 0 (omega arith)))
-zero-isnt (suc k) = ==-false (suc k) 0 (λ e. omega arith) ∙ sym (ap not (<?-true 0 (suc k) (omega arith)))
-
 -- the words of a matrix say which of its fragments agree
 words-agree : (g : Grid) (words : List ℕ) (p q : ℕ) → Masks g words → p < g .m → q < g .m → wordsAgree words p q ≡ agree g p q
-unfolding wordsAgree agree
-words-agree g words p q masks hp hq = ap (λ (k : ℕ). k == 0) (all-conflicts g p q masks hp hq) ∙ zero-isnt _ ∙ ap isnt (conflict-counted g p q)
+unfolding wordsAgree agree conflict conflictOn
+words-agree g words p q masks hp hq =
+    ap isnt (ap occupied (ap₂ conflictPlaces (line-at g p masks hp) (line-at g q masks hq) ∙ lines-conflict g p q hp hq) ∙ occupied-below (g .n) _ (masks .narrow))
 
 pub words-join : (g : Grid) (words : List ℕ) (s i : ℕ) → Masks g words → s ≤ i → i < g .m → wordsJoin words s i ≡ mayJoin g s i
 unfolding wordsJoin mayJoin

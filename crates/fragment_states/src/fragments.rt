@@ -1,37 +1,61 @@
-// What the programme asks of the fragments of a cell matrix, 128 cells to a fragment: reaches and agreement (paper 001, section 5.2).
+// What the programme asks of the fragments, by their masks: reaches and agreement (paper 001, section 5.2).
 use masks::line_at;
-use places::Places;
-use places::conflict_count;
-use writing::calls_end;
+use places::Line;
 ghost use mathlib.Core.Path.{_≡_};
 ghost use Prim.Native.Nat.{ℕ, _+_, _<_, _≤_};
 ghost use lib.ListN.{length};
 ghost use Rattle.below.specs.Below.{bit};
-ghost use Rattle.matrix.specs.Algorithm.Matrix.{matrixGrid, Matrix};
+ghost use Rattle.fields.specs.Record.{isCall};
+ghost use Rattle.fields.specs.Writing.{callsEnd};
+ghost use Rattle.masks.specs.Algorithm.Masks.{codeIn, wordsGrid};
 ghost use Rattle.fragment_states.specs.Algorithm.Fragments.{Begins, stateReach, wordsAgree, wordsJoin};
 
+// Whether a line has a call at column c.
+fn call_at(line: Line, c: usize) -> bool
+    requires { ⌜ c < 128 ⌝ }
+    ensures { λ r. ⌜ r ≡ isCall (codeIn line c) ⌝ }
+{
+    if line.a.has(c) {
+        return true;
+    }
+    line.b.has(c)
+}
+
+// One past the last of the first n columns that a line calls, and 0 where it calls none.
+fn line_end(n: usize, line: Line) -> usize
+    requires { ⌜ n ≤ 128 ⌝ }
+    ensures { λ r. ⌜ (r ≡ callsEnd n (codeIn line)) × (r ≤ n) ⌝ }
+{
+    let mut end = n;
+    while 0 < end {
+        if call_at(line, end - 1) {
+            return end;
+        }
+        end -= 1;
+    }
+    0
+}
+
 // How far a side's state reaches.
-fn state_reach(n: usize, cells: &[u8], s: usize) -> u8
-    requires { ⌜ (length (now cells) ≡ 16384) × (n ≤ 128) × (s ≤ 128) ⌝ }
-    ensures { λ r. ⌜ ((m : ℕ) → r ≡ stateReach (matrixGrid m n (now (cells .entry))) s) × (r ≤ n) ⌝ }
+fn state_reach(n: usize, masks: &[u64], s: usize) -> u8
+    requires { ⌜ (length (now masks) ≡ 512) × (n ≤ 128) × (s ≤ 128) ⌝ }
+    ensures { λ r. ⌜ ((m : ℕ) → r ≡ stateReach (wordsGrid m n (now (masks .entry))) s) ⌝ }
 {
     if s == 0 {
         return 0;
     }
-    let from = (s - 1) * 128;
-    let to = from + n;
-    calls_end(&cells[from..to]) as u8
+    line_end(n, line_at(masks, s - 1)) as u8
 }
 
 // The reaches of the states.
-pub fn fill_reaches(m: usize, n: usize, cells: &[u8], reaches: &mut [u8])
-    requires { ⌜ Matrix m n (now cells) × (length (now reaches) ≡ 129) ⌝ }
-    ensures { λ _. ⌜ Begins (stateReach (matrixGrid m n (now (cells .entry)))) (m + 1) (now (reaches .exit)) ⌝ }
+pub fn fill_reaches(m: usize, n: usize, masks: &[u64], reaches: &mut [u8])
+    requires { ⌜ (m ≤ 128) × (n ≤ 128) × (length (now masks) ≡ 512) × (length (now reaches) ≡ 129) ⌝ }
+    ensures { λ _. ⌜ Begins (stateReach (wordsGrid m n (now (masks .entry)))) (m + 1) (now (reaches .exit)) ⌝ }
 {
     let states = m + 1;
     let mut s = 0;
     while s < states {
-        reaches[s] = state_reach(n, cells, s);
+        reaches[s] = state_reach(n, masks, s);
         s += 1;
     }
 }
@@ -41,7 +65,7 @@ fn positions_agree(masks: &[u64], p: usize, q: usize) -> bool
     requires { ⌜ (length (now masks) ≡ 512) × (p < 128) × (q < 128) ⌝ }
     ensures { λ r. ⌜ r ≡ wordsAgree (now (masks .entry)) p q ⌝ }
 {
-    conflict_count(line_at(masks, p), line_at(masks, q), Places::all()) == 0
+    !line_at(masks, p).conflicts(line_at(masks, q)).any()
 }
 
 // 1 where the fragment at position i agrees with a side's state, and 0 where not.

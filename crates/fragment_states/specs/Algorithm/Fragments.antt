@@ -4,10 +4,10 @@ use mathlib.Core.Path.{_≡_}
 use mathlib.Core.Bool.{Bool, true}
 use mathlib.Core.List.{List}
 use Prim.Native.Nat.{ℕ, zero, suc, _<_}
-use Rattle.below.specs.Below.{_==_, nth}
+use Rattle.below.specs.Below.{isnt, nth}
 use Rattle.fields.specs.Writing.{callsEnd}
 use Rattle.conflicts.specs.Grid.{Grid, agree}
-use Rattle.places.specs.Algorithm.Places.{anywhere, placesWhere, conflictSize}
+use Rattle.places.specs.Algorithm.Places.{occupied, conflictPlaces}
 use Rattle.masks.specs.Algorithm.Masks.{lineAt}
 
 -- one past the last called column of a fragment, 0 without calls
@@ -28,9 +28,9 @@ unfoldable pub mayJoin : Grid → ℕ → ℕ → Bool
 mayJoin g zero i = true
 mayJoin g (suc h) i = agree g h i
 
--- two fragments agree by the words of their masks: the number of columns on which they conflict is 0
+-- two fragments agree by the words of their masks: there is no column on which they conflict
 unfoldable pub wordsAgree : List ℕ → ℕ → ℕ → Bool
-wordsAgree words p q = conflictSize (placesWhere anywhere) (lineAt words p) (lineAt words q) == 0
+wordsAgree words p q = isnt (occupied (conflictPlaces (lineAt words p) (lineAt words q)))
 
 -- the fragment at position i agrees with a side's state, by the words
 unfoldable pub wordsJoin : List ℕ → ℕ → ℕ → Bool

@@ -5,33 +5,33 @@ use Prim.Native.Nat.{_-_, _≤_}
 use native.Mathlib.Omega.{arith}
 use lib.ListN.{length}
 use borrow.Author.Needs.{needs}
-use Rattle.matrix.specs.Algorithm.Matrix.{matrixGrid}
+use Rattle.masks.specs.Algorithm.Masks.{wordsGrid}
 use Rattle.fragment_states.specs.Algorithm.Fragments.{Begins, stateReach}
 use Rattle.fragment_states.proofs.FillLaws.{begins-none, begins-more}
 use Rattle.fragment_states.proofs.fragments.fill_reaches.Statement.{statement}
 use Rattle.fragment_states.proofs.fragments.fill_reaches.Tie as tie
 
 abbrev Inv-loop : tie.InvT-loop
-Inv-loop m n cells reaches₀ states s₀ reaches s = (s ≤ states) × (length reaches ≡ 129) × Begins (stateReach (matrixGrid m n cells)) s reaches
+Inv-loop m n masks reaches₀ states s₀ reaches s = (s ≤ states) × (length reaches ≡ 129) × Begins (stateReach (wordsGrid m n masks)) s reaches
 
 abbrev μ-loop : tie.MeasureT-loop
-μ-loop m n cells reaches₀ states s₀ reaches s = states - s
+μ-loop m n masks reaches₀ states s₀ reaches s = states - s
 
 loop-holds : tie.Need-loop-holds Inv-loop μ-loop
 loop-holds c = (search needs, search needs, begins-none _ _)
 
 state-reach-requires : tie.Need-state-reach-requires Inv-loop μ-loop
-state-reach-requires c κs = let p = c .before .before .before .before .pre .0 in let h = p .rows in (p .size, p .columns, omega arith)
+state-reach-requires c κs = let p = c .before .before .before .before .pre in let h = p .0 in (p .2, p .1, omega arith)
 
 slice-write-reaches : tie.Need-slice-write-reaches Inv-loop μ-loop
-slice-write-reaches c = let h = c .before .before .before .before .before .pre .0 .rows in omega arith
+slice-write-reaches c = let h = c .before .before .before .before .before .pre .0 in omega arith
 
 loop-again : tie.Need-loop-again Inv-loop μ-loop
 loop-again c =
     let l = c .before .before .loop in
     let s = c .before .before .before .before .before in
-    let h = s .pre .0 .rows in
-    (search needs, search needs, begins-more _ (l .s) (l .reaches) _ (l .inv .2) (omega arith) (c .state-reach .ensures .0 (s .args .m)))
+    let h = s .pre .0 in
+    (search needs, search needs, begins-more _ (l .s) (l .reaches) _ (l .inv .2) (omega arith) (c .state-reach .ensures (s .args .m)))
 
 returns : tie.Need-returns Inv-loop μ-loop
 returns c = let l = c .before .loop in record { begins = λ q h. l .inv .2 .begins q (omega arith) }
