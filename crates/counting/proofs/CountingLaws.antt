@@ -1,35 +1,32 @@
 -- What conflict_counts writes, row by row, and what it returns, stage by stage.
 -- Assumes nothing.
-use mathlib.Core.Path.{_≡_, sym, ap, ap₂, subst, _∙_}
+use mathlib.Core.Path.{_≡_, sym, ap, subst, _∙_}
 use mathlib.Core.List.{List, [], _∷_}
-use Prim.Native.Nat.{ℕ, _+_, _*_, _<_}
+use Prim.Native.Nat.{ℕ, _+_, _*_, _≤_, _<_}
 use native.Mathlib.Omega.{arith}
 use lib.Dec.{T}
 use lib.ListN.{length}
-use Rattle.below.specs.Below.{_and_, tab, concat, nth}
-use Rattle.below.proofs.BelowLaws.{is-true, is-false, eq-==, ne-isnt, T-isnt-isnt, count-ext}
+use Rattle.below.specs.Below.{tab, concat, nth}
+use Rattle.below.proofs.BelowLaws.{is-true, is-false, eq-==, ne-isnt, T-isnt-isnt}
 use Rattle.below.proofs.RowLaws.{tab-ext, length-flat, flat-at}
-use Rattle.fields.specs.Record.{codeAt}
-use Rattle.fields.specs.Table.{fragments, recordAt}
+use Rattle.fields.specs.Table.{fragments}
 use Rattle.records.specs.Outcome.{Verdict, accepted, refused}
 use Rattle.records.specs.Rules.{Rule, decide, sizeRules, tableRules}
-use Rattle.records.specs.Algorithm.Kept.{SizesKept}
+use Rattle.records.specs.Algorithm.Kept.{SizesKept, RecordsKept}
 use Rattle.records.proofs.RuleLaws.{accepted-count, rule-broken, rule-kept, decide-none, stage-kept, stage-refused, stage-last}
 use Rattle.records.proofs.AcceptedLaws.{sized-count, sized-n, sized-m}
 use Rattle.conflicts.specs.Choice.{marked, keepAll}
-use Rattle.conflicts.specs.Grid.{gridOf, callsConflict, conflictOn}
+use Rattle.conflicts.specs.Grid.{gridOf}
 use Rattle.conflicts.specs.Counts.{conflictCount, conflictCounts, CountsTold}
 use Rattle.conflicts.specs.Services.{written, lengthRule, conflictCountsRules, conflictCountsLeaves}
 use Rattle.conflicts.proofs.CountLaws.{counts-told}
 use Rattle.conflicts.proofs.Outcomes.{counts-refused}
 use Rattle.conflicts.proofs.SideLaws.{kept-all}
-use Rattle.matrix.specs.Algorithm.Cells.{tableCells}
-use Rattle.matrix.specs.Algorithm.Matrix.{matrixGrid}
-use Rattle.matrix.proofs.TableLaws.{cells-same}
 use Rattle.places.specs.declared.places.Places.{Places}
 use Rattle.places.specs.Algorithm.Places.{placesWhere}
 use Rattle.masks.specs.Algorithm.Masks.{maskWords}
 use Rattle.masks.specs.Algorithm.Pairs.{pairMatrix, Compared}
+use Rattle.masks.proofs.TableLaws.{table-masks}
 use Rattle.masks.proofs.PairLaws.{matrix-at, number-kept}
 use Rattle.counting.specs.Algorithm.Rows.{rowsOf}
 use Rattle.counting.specs.Meanings.{ConflictCountsSay}
@@ -47,34 +44,25 @@ rows-at m matrix i j e hi hj = sym (ap (λ (k : ℕ). nth (rowsOf m matrix) (k +
 
 -- ---- the numbers of a table
 
-module _ (n m : ℕ) (table : List ℕ) (sized : SizesKept n m table) where
-  -- the number of two fragments, by the cells and by the bytes
-  same-count : (i j : ℕ) → i < m → j < m → conflictCount (matrixGrid m n (tableCells n table)) (keepAll n) i j ≡ conflictCount (gridOf n table) (keepAll n) i j
-  unfolding conflictCount gridOf matrixGrid conflictOn
-  same-count i j hi hj =
-      let count = sized-count sized in
-      let few = sized-m sized in
-      let code : (p : ℕ) → p < m → (c : ℕ) → c < n → nth (tableCells n table) (p * 128 + c) ≡ codeAt (recordAt table p) c = λ p hp c hc. cells-same n table (sized-n sized) (omega arith) p c (omega arith) hc in
-      count-ext n _ _ (λ c h. ap₂ (λ (x y : ℕ). marked (keepAll n) c and callsConflict x y) (code i hi c h) (code j hj c h))
-
+module _ (n m : ℕ) (table : List ℕ) (sized : SizesKept n m table) (kept : RecordsKept n table) where
   -- the rows of the matrix of all pairs
-  pub rows-count : {cells words cols frags matrix : List ℕ} {keep : Places} → cells ≡ tableCells n table → words ≡ maskWords (matrixGrid m n cells) → cols ≡ keepAll n → frags ≡ keepAll m
+  pub rows-count : {words cols frags matrix : List ℕ} {keep : Places} → ((k : ℕ) → k ≤ 128 → RecordsKept k table → words ≡ maskWords (gridOf k table)) → cols ≡ keepAll n → frags ≡ keepAll m
       → keep ≡ placesWhere (marked cols) → matrix ≡ pairMatrix words keep frags → rowsOf m matrix ≡ conflictCounts (gridOf n table)
-  unfolding rowsOf conflictCounts gridOf matrixGrid
-  rows-count {cells} {words} {cols} {frags} {matrix} {keep} ec ew ek ef ep em =
+  unfolding rowsOf conflictCounts gridOf
+  rows-count {words} {cols} {frags} {matrix} {keep} are ek ef ep em =
       ap concat (tab-ext m _ _ (λ i hi. tab-ext m _ _ (λ j hj. entry i j hi hj)))
       ∙ ap (λ (k : ℕ). concat (tab k (λ i. tab k (λ j. conflictCount (gridOf n table) (keepAll n) i j)))) (sym (sized-count sized))
     where
       entry : (i j : ℕ) → i < m → j < m → nth matrix (i * 128 + j) ≡ conflictCount (gridOf n table) (keepAll n) i j
       entry i j hi hj =
           let few = sized-m sized in
-          let by : Compared (matrixGrid m n cells) cols words keep = record { masks = record { few = few; narrow = sized-n sized; are = ew }; columns = ep } in
+          let count = sized-count sized in
+          let by : Compared (gridOf n table) cols words keep = record { masks = table-masks sized kept (are n (sized-n sized) kept); columns = ep } in
           let marked-at : (k : ℕ) → k < m → T (marked frags k) = λ k h. subst (λ (l : List ℕ). T (marked l k)) (sym ef) (kept-all m k h) in
           ap (λ (l : List ℕ). nth l (i * 128 + j)) em
           ∙ matrix-at words keep frags i j (omega arith) (omega arith)
-          ∙ number-kept by frags i j hi hj (marked-at i hi) (marked-at j hj)
-          ∙ ap₂ (λ (k l : List ℕ). conflictCount (matrixGrid m n l) k i j) ek ec
-          ∙ same-count i j hi hj
+          ∙ number-kept by frags i j (omega arith) (omega arith) (marked-at i hi) (marked-at j hj)
+          ∙ ap (λ (k : List ℕ). conflictCount (gridOf n table) k i j) ek
 
 -- ---- the service, stage by stage
 

@@ -3,7 +3,7 @@ ghost use mathlib.Core.Path.{_≡_};
 ghost use Prim.Native.Nat.{_*_, _≤_};
 ghost use lib.ListN.{length};
 ghost use Rattle.records.specs.Outcome.{outcomeOf};
-ghost use Rattle.records.specs.Algorithm.Kept.{SizesKept};
+ghost use Rattle.records.specs.Algorithm.Kept.{SizesKept, RecordsKept};
 ghost use Rattle.conflicts.specs.Grid.{gridOf};
 ghost use Rattle.conflicts.specs.Counts.{conflictCounts};
 ghost use Rattle.conflicts.specs.Services.{conflictCountsLeaves};
@@ -16,7 +16,6 @@ use masks::mask_room;
 use matrix::all_kept;
 use matrix::blank_cells;
 use matrix::copy;
-use matrix::fill_matrix;
 use records::Outcome;
 use records::records_fault;
 use records::size_fault;
@@ -38,16 +37,14 @@ fn copy_rows(m: usize, matrix: &[u8], counts: &mut [u8])
 
 // Writes the m × m numbers of a table.
 fn count_table(n: usize, m: usize, table: &[u8], counts: &mut [u8])
-    requires { ⌜ SizesKept n m (now table) ⌝ }
+    requires { ⌜ SizesKept n m (now table) × RecordsKept n (now table) ⌝ }
     requires { ⌜ length (now counts) ≡ m * m ⌝ }
     ensures { λ _. ⌜ now (counts .exit) ≡ conflictCounts (gridOf n (now (table .entry))) ⌝ }
 {
-    let mut cells = blank_cells();
     let mut masks = mask_room();
     let mut matrix = blank_cells();
     let all = all_kept();
-    fill_matrix(n, table, &mut cells);
-    fill_masks(m, n, &cells, &mut masks);
+    fill_masks(table, &mut masks);
     fill_pairs(&masks, kept(&all[0..n]), &all[0..m], &mut matrix);
     copy_rows(m, &matrix, counts);
 }
@@ -71,7 +68,7 @@ fn counts_sized(n: usize, m: usize, table: &[u8], counts: &mut [u8]) -> Outcome
     }
 }
 
-// Accepted with m, and m × m bytes: row by row, on how many columns fragments i and j conflict. A refusal writes nothing. Takes 40 KB of stack.
+// Accepted with m, and m × m bytes: row by row, on how many columns fragments i and j conflict. A refusal writes nothing. Takes 23 KB of stack.
 pub fn conflict_counts(n: usize, table: &[u8], counts: &mut [u8]) -> Outcome
     ensures outcome { λ r. ⌜ outcomeOf r ≡ conflictCountsLeaves n (now (table .entry)) (now (counts .entry)) .outcome ⌝ }
     ensures counts { λ _. ⌜ now (counts .exit) ≡ conflictCountsLeaves n (now (table .entry)) (now (counts .entry)) .counts ⌝ }

@@ -1,9 +1,9 @@
 -- What check returns and leaves, stage by stage.
 -- Assumes nothing.
-use mathlib.Core.Path.{_≡_, sym, ap, subst, _∙_}
+use mathlib.Core.Path.{_≡_, refl, sym, ap, subst, _∙_}
 use mathlib.Core.Bool.{Bool, true, false}
 use mathlib.Core.List.{List, [], _∷_}
-use Prim.Native.Nat.{ℕ}
+use Prim.Native.Nat.{ℕ, _≤_}
 use mathlib.Core.Logic.{inl, inr}
 use native.Mathlib.Nat.{eq-zero-or-pos}
 use native.Mathlib.Omega.{arith}
@@ -15,34 +15,31 @@ use Rattle.records.specs.Rules.{Rule, decide, sizeRules, tableRules}
 use Rattle.below.proofs.BelowLaws.{length-tab, is-true, is-false, eq-==, ne-isnt, T-isnt-isnt}
 use Rattle.records.proofs.RuleLaws.{rule-broken, rule-kept, decide-none, decide-accepted, stage-kept, stage-refused, stage-last}
 use Rattle.conflicts.specs.Choice.{keepAll}
-use Rattle.conflicts.specs.Grid.{gridOf}
-use Rattle.matrix.specs.Algorithm.Matrix.{matrixGrid}
+use Rattle.conflicts.specs.Grid.{Grid, gridOf}
 use Rattle.conflicts.specs.Sides.{errorFree, firstSides}
 use Rattle.conflicts.specs.Answer.{answerSize, answer, checkAnswer}
 use Rattle.conflicts.specs.Services.{writtenOnYes, lengthRule, checkRules, checkLeaves}
 use Rattle.conflicts.proofs.Outcomes.{check-refused, check-yes, check-no, check-answer}
-use Rattle.matrix.specs.Algorithm.Cells.{tableCells}
+use Rattle.masks.specs.Algorithm.Masks.{Masks, maskWords}
+use Rattle.masks.proofs.TableLaws.{table-masks}
 use Rattle.phasing.specs.Algorithm.Answer.{AnswerFound}
-use Rattle.phasing.proofs.TableLaws.{cells-found}
 use Rattle.conflicts.specs.Minimality.{AgreeingClasses, ErrorFreeAnswer}
 use Rattle.conflicts.proofs.GridLaws.{classes-agree}
-use Rattle.records.specs.Algorithm.Kept.{SizesKept}
+use Rattle.records.specs.Algorithm.Kept.{SizesKept, RecordsKept}
 use Rattle.verdicts.specs.Meanings.{CheckSays}
-use Rattle.records.proofs.AcceptedLaws.{sized-count, sized-n, sized-m}
+use Rattle.records.proofs.AcceptedLaws.{sized-count, sized-n}
 
--- ---- the cell matrix
+-- ---- the masks
 
--- what phasing the cell matrix left, said of the table
-pub table-found : {n m : ℕ} {table cells cols frags before after : List ℕ} {ok : Bool} → SizesKept n m table → cells ≡ tableCells n table → cols ≡ keepAll n → frags ≡ keepAll m
-    → AnswerFound (matrixGrid m n cells) cols frags ok before after → AnswerFound (gridOf n table) (keepAll n) (keepAll m) ok before after
-table-found {n} {m} {table} {cells} {cols} {frags} {before} {after} {ok} sized e f g found =
-    let a = subst (λ (x : List ℕ). AnswerFound (matrixGrid m n x) cols frags ok before after) e found in
-    let b = subst (λ (x : List ℕ). AnswerFound (matrixGrid m n (tableCells n table)) x frags ok before after) f a in
-    let c = subst (λ (x : List ℕ). AnswerFound (matrixGrid m n (tableCells n table)) (keepAll n) x ok before after) g b in
-    let d = subst (λ (k : ℕ). AnswerFound (matrixGrid k n (tableCells n table)) (keepAll n) (keepAll m) ok before after) (sym (sized-count sized)) c in
-    let h = sized-m sized in
-    let i = sized-count sized in
-    cells-found n table (sized-n sized) (omega arith) d
+-- what phasing the masks left, said of the table
+pub table-found : {n m : ℕ} {table words cols frags before after : List ℕ} {ok : Bool} → SizesKept n m table → RecordsKept n table
+    → ((k : ℕ) → k ≤ 128 → RecordsKept k table → words ≡ maskWords (gridOf k table)) → cols ≡ keepAll n → frags ≡ keepAll m
+    → ((g : Grid) → Masks g words → m ≡ g .m → n ≡ g .n → AnswerFound g cols frags ok before after) → AnswerFound (gridOf n table) (keepAll n) (keepAll m) ok before after
+unfolding gridOf
+table-found {n} {m} {table} {cols = cols} {frags} {before} {after} {ok} sized kept are f g found =
+    let a = found (gridOf n table) (table-masks sized kept (are n (sized-n sized) kept)) (sym (sized-count sized)) refl in
+    let b = subst (λ (x : List ℕ). AnswerFound (gridOf n table) x frags ok before after) f a in
+    subst (λ (x : List ℕ). AnswerFound (gridOf n table) (keepAll n) x ok before after) g b
 
 -- ---- check
 

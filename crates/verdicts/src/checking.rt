@@ -7,13 +7,11 @@ ghost use Rattle.conflicts.specs.Grid.{gridOf};
 ghost use Rattle.conflicts.specs.Answer.{answerSize};
 ghost use Rattle.conflicts.specs.Services.{checkLeaves};
 ghost use Rattle.phasing.specs.Algorithm.Answer.{AnswerFound};
-ghost use Rattle.records.specs.Algorithm.Kept.{SizesKept};
+ghost use Rattle.records.specs.Algorithm.Kept.{SizesKept, RecordsKept};
 ghost use Rattle.verdicts.specs.Meanings.{CheckSays};
 use masks::fill_masks;
 use masks::mask_room;
 use matrix::all_kept;
-use matrix::blank_cells;
-use matrix::fill_matrix;
 use phasing::phase;
 use records::Outcome;
 use records::records_fault;
@@ -21,17 +19,15 @@ use records::size_fault;
 
 // Phases the whole table: on a yes the answer is written, on a no nothing.
 fn phase_table(n: usize, m: usize, table: &[u8], answer: &mut [u8]) -> bool
-    requires { ⌜ SizesKept n m (now table) ⌝ }
+    requires { ⌜ SizesKept n m (now table) × RecordsKept n (now table) ⌝ }
     requires { ⌜ length (now answer) ≡ answerSize m n ⌝ }
     ensures { λ r. ⌜ AnswerFound (gridOf n (now (table .entry))) (keepAll n) (keepAll m) r (now (answer .entry)) (now (answer .exit)) ⌝ }
 {
-    let mut cells = blank_cells();
     let mut masks = mask_room();
     let cols = all_kept();
     let frags = all_kept();
-    fill_matrix(n, table, &mut cells);
-    fill_masks(m, n, &cells, &mut masks);
-    phase(m, n, &cells, &masks, &cols[0..n], &frags[0..m], answer)
+    fill_masks(table, &mut masks);
+    phase(m, n, &masks, &cols[0..n], &frags[0..m], answer)
 }
 
 // Check once the sizes are kept: the answer's length, then the records.
@@ -55,7 +51,7 @@ fn check_sized(n: usize, m: usize, table: &[u8], answer: &mut [u8]) -> Outcome
     }
 }
 
-// Accepted with 0 for yes, and the whole answer; with 1 for no, and the answer untouched. A refusal writes nothing. Takes 38 KB of stack.
+// Accepted with 0 for yes, and the whole answer; with 1 for no, and the answer untouched. A refusal writes nothing. Takes 6 KB of stack.
 pub fn check(n: usize, table: &[u8], answer: &mut [u8]) -> Outcome
     ensures outcome { λ r. ⌜ outcomeOf r ≡ checkLeaves n (now (table .entry)) (now (answer .entry)) .outcome ⌝ }
     ensures answer { λ _. ⌜ now (answer .exit) ≡ checkLeaves n (now (table .entry)) (now (answer .entry)) .answer ⌝ }

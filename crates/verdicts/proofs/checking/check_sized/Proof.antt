@@ -40,7 +40,7 @@ unfolding answerSize
 phase-table-requires c κs =
     let if1 = c .before .before .before .before .if1 in
     let start = c .before .before .before .before .before .before .before in
-    (start .pre, if1 .left)
+    ((start .pre, record { count = _; kept = sym (c .before .before .before .records-fault .ensures) ∙ ap outcomeOf (c .before .enum-told .given .1) }), if1 .left)
 
 returns-2 : tie.Need-returns-2
 unfolding answerSize
