@@ -3,10 +3,10 @@
 use mathlib.Core.Path.{_≡_, refl, sym, ap, ap₂, subst, _∙_}
 use mathlib.Core.Bool.{Bool, true, false}
 use mathlib.Core.List.{List}
-use Prim.Native.Nat.{ℕ, suc, _+_, _*_, _^_, _-_, _/_, _%_, _≤_, _<_, min}
-use native.Mathlib.Nat.{le-refl}
+use Prim.Native.Nat.{ℕ, suc, _+_, _*_, _^_, _-_, _≤_, _<_, max, zero-le}
+use native.Mathlib.Nat.{le-refl, le-trans, le-antisymm, max-le, le-max-left, le-max-right, max-eq-right}
 use native.Mathlib.Numerals.{add-one}
-use native.Mathlib.Decide.{ℕ-discrete}
+use native.Mathlib.Decide.{ℕ-discrete, decLe}
 use native.Mathlib.Omega.{arith}
 use lib.ListN.{length, replicate, length-replicate}
 use Rattle.below.specs.Below.{if_then_else_, bit, _<?_}
@@ -17,14 +17,15 @@ use Rattle.conflicts.specs.Minimality.{everything}
 use Rattle.ranks.specs.declared.rank.Rank.{Rank}
 use Rattle.ranks.specs.Algorithm.Weight.{top, place, placesOf, AtMost, removal}
 use Rattle.ranks.specs.Algorithm.Reading.{code, value, SumFits}
-use Rattle.ranks.specs.Algorithm.Tables.{Sweep, Cleared}
-use Rattle.ranks.proofs.WeightLaws.{places-top, atMost-more}
-use Rattle.ranks.proofs.TableLaws.{parts-small, sweep-none, zeros-at}
+use Rattle.ranks.specs.Algorithm.Tables.{Put, Sweep, Cleared}
+use Rattle.ranks.proofs.WeightLaws.{places-top, atMost-more, atMost-add}
+use Rattle.ranks.proofs.TableLaws.{parts-small, put-as, sweep-none, sweep-more, zeros-at}
 use Rattle.fragment_states.specs.Algorithm.Fragments.{Begins, stateReach, mayJoin}
-use Rattle.fragment_removal.specs.Algorithm.Programme.{furthest, chooseFragment, withFragment, leastFragmentWeight}
-use Rattle.fragment_removal.specs.Algorithm.Pairs.{pairs, flat, Fits, FragmentRoom, Rows, Made, HoldsFragments}
+use Rattle.fragment_removal.specs.Algorithm.Programme.{furthest, keepFragment, withFragment, mostKept}
+use Rattle.fragment_removal.specs.Algorithm.Pairs.{rowStart, corner, pairs, along, Fits, FragmentRoom, Rows, Made, HoldsFragments}
+use Rattle.fragment_removal.proofs.CornerLaws.{row-next, row-after, corner-row, corner-swap, corner-least}
 use Rattle.fragment_removal.proofs.SumLaws.{lastSum, last-first}
-use Rattle.fragment_removal.proofs.ProgrammeLaws.{one-removed, choose-small, programme-small}
+use Rattle.fragment_removal.proofs.ProgrammeLaws.{one-removed, keep-small, kept-small}
 
 -- ---- room
 
@@ -32,11 +33,11 @@ use Rattle.fragment_removal.proofs.ProgrammeLaws.{one-removed, choose-s
 pub removal-of : {v : ℕ} (p : ℕ) → v ≡ 1 * top + place p → v ≡ removal p
 removal-of p e = omega arith
 
--- a removal and a weight that has room for it add up
-pub sum-fits : (out b : Rank) {v : ℕ} (others : ℕ) → out .count ≤ 1 → code out + others < top → b .high < 2 ^ 64 → b .low < 2 ^ 64 → value b ≡ v → AtMost 127 others v → SumFits out b
-sum-fits out b others few fits bh bl e m =
-    let y = parts-small b bh bl e m (below (code out) others top fits) in
-    record { counts = small few (y .0); codes = total (code out) (code b) others top fits (y .1) }
+-- the fragment's own weight and one that has room for it add up
+pub sum-fits : (own b : Rank) {v : ℕ} (others : ℕ) → own .count ≤ 1 → code own + others < top → b .high < 2 ^ 64 → b .low < 2 ^ 64 → value b ≡ v → AtMost 127 others v → SumFits own b
+sum-fits own b others few fits bh bl e m =
+    let y = parts-small b bh bl e m (below (code own) others top fits) in
+    record { counts = small few (y .0); codes = total (code own) (code b) others top fits (y .1) }
   where
     below : (x s t : ℕ) → x + s < t → s < t
     below x s t h = omega arith
@@ -47,33 +48,58 @@ sum-fits out b others few fits bh bl e m =
     total : (x y s t : ℕ) → x + s < t → y ≤ s → x + y < t
     total x y s t h l = omega arith
 
+-- what the sum comes to
+own-small : (own : Rank) {others v : ℕ} → own .count ≤ 1 → AtMost 127 others v → AtMost 128 (code own + others) (value own + v)
+own-small own few m = atMost-add (record { cost = own .count; places = code own; is = refl; few = few; low = le-refl (code own) }) m
+
 -- the weight that the fragment makes has a count of 16 bits
-pub count-fits : (out r : Rank) (a b : Bool) {one two rest : ℕ} (others : ℕ) → out .count ≤ 1 → code out + others < top → r .high < 2 ^ 64 → r .low < 2 ^ 64
-    → value r ≡ chooseFragment a b (value out) one two rest → AtMost 127 others one → AtMost 127 others two → AtMost 127 others rest → r .count < 65536
-count-fits out r a b others few fits hh hl e x y z =
-    short (parts-small r hh hl e (choose-small a b (itself out few) x y z) fits .0)
+pub count-fits : (own r : Rank) (a b moves : Bool) {far one rest : ℕ} → Fits own far one rest → r .high < 2 ^ 64 → r .low < 2 ^ 64
+    → value r ≡ keepFragment a b (value own + one) (if moves then far else value own + rest) rest → r .count < 65536
+count-fits own r a b moves {far} {one} {rest} f hh hl e =
+    short (parts-small r hh hl e (keep-small a b (own-small own (f .few) (f .one-small)) two (atMost-more (omega arith) (omega arith) (f .rest-small))) (f .fits) .0)
   where
-    itself : (out : Rank) → out .count ≤ 1 → AtMost 1 (code out) (value out)
-    itself out few = record { cost = out .count; places = code out; is = refl; few = few; low = le-refl (code out) }
+    two : AtMost 128 (code own + f .others) (if moves then far else value own + rest)
+    two = if-ind (AtMost 128 (code own + f .others)) moves (λ t. f .far-small) (λ t. own-small own (f .few) (f .rest-small))
 
     short : {c : ℕ} → c ≤ 128 → c < 65536
     short l = omega arith
 
+-- the same where side 1 is not joined
+pub fits-here : {own : Rank} {far one rest : ℕ} → Fits own far one rest → Fits own far rest rest
+fits-here f = record { others = f .others; few = f .few; fits = f .fits; far-small = f .far-small; one-small = f .rest-small; rest-small = f .rest-small }
+
 -- equal choices
-choose-same : {a a′ b b′ : Bool} {out out′ x x′ y y′ z z′ : ℕ} → a ≡ a′ → b ≡ b′ → out ≡ out′ → x ≡ x′ → y ≡ y′ → z ≡ z′ → chooseFragment a b out x y z ≡ chooseFragment a′ b′ out′ x′ y′ z′
-choose-same ea eb eo ex ey ez = rw (ea, eb, eo, ex, ey, ez)
+keep-same : {a a′ b b′ : Bool} {own own′ x x′ y y′ z z′ : ℕ} → a ≡ a′ → b ≡ b′ → own ≡ own′ → x ≡ x′ → y ≡ y′ → z ≡ z′
+    → keepFragment a b (own + x) (own + y) z ≡ keepFragment a′ b′ (own′ + x′) (own′ + y′) z′
+keep-same ea eb eo ex ey ez = rw (ea, eb, eo, ex, ey, ez)
 
 -- what the weights and tests of a fragment come to
-pub chosen-weight : (a b b′ : Bool) (out here : ℕ) {x y z two one gone best r : ℕ} → b ≡ b′ → gone ≡ out + here → best ≡ (if b then min gone two else gone) → r ≡ (if a then min best one else best)
-    → one ≡ x → two ≡ y → here ≡ z → r ≡ chooseFragment a b′ out x y z
-chosen-weight a b b′ out here e eg eb er ex ey ez = er ∙ rw (eb, eg, e, ex, ey, ez)
+pub chosen-weight : (a b b′ : Bool) (here : ℕ) {x y z two one best r : ℕ} → b ≡ b′ → best ≡ (if b then max here two else here) → r ≡ (if a then max best one else best)
+    → one ≡ x → two ≡ y → here ≡ z → r ≡ keepFragment a b′ x y z
+chosen-weight a b b′ here e eb er ex ey ez = er ∙ rw (eb, e, ex, ey, ez)
 
 -- a weight that may be taken, and one that may not
-pub taken-weight : {may : Bool} (best : ℕ) {other x r : ℕ} → may ≡ true → r ≡ min best other → other ≡ x → r ≡ (if may then min best x else best)
+pub taken-weight : {may : Bool} (best : ℕ) {other x r : ℕ} → may ≡ true → r ≡ max best other → other ≡ x → r ≡ (if may then max best x else best)
 taken-weight best e a b = a ∙ rw (e, b)
 
-pub left-weight : {may : Bool} (best x : ℕ) → may ≡ false → best ≡ (if may then min best x else best)
+pub left-weight : {may : Bool} (best x : ℕ) → may ≡ false → best ≡ (if may then max best x else best)
 left-weight best x e = rw e
+
+-- one that adds the fragment's own weight is the greater
+pub own-adds : (own here : ℕ) → own + here ≡ max here (own + here)
+own-adds own here = sym (max-eq-right (omega arith))
+
+-- a table that stays as it is has at a place what it has there
+pub put-none : (v : ℕ → ℕ) (j : ℕ) {x : ℕ} → v j ≡ x → Put v v j x
+put-none v j e = record { here = e; there = λ i ne. refl }
+
+-- ---- sweeps that end where a number by another name says
+
+pub sweep-at : {f old now : ℕ → ℕ} {a j k : ℕ} → Sweep f old now a j → j ≡ k → Sweep f old now a k
+sweep-at {f} {old} {now} {a} s e = subst (Sweep f old now a) e s
+
+pub sweep-none-at : (f old : ℕ → ℕ) (a : ℕ) → Sweep f old old a (a + 0)
+sweep-none-at f old a = sweep-at (sweep-none f old a) (omega arith)
 
 -- ---- a row in place
 
@@ -87,66 +113,88 @@ further reaches s i h = sym (if-true (reaches s <? reaches (i + 1)) (i + 1) s (l
 pub no-further : (reaches : ℕ → ℕ) (s i : ℕ) → reaches (i + 1) ≤ reaches s → s ≡ furthest reaches s i
 no-further reaches s i h = sym (if-false (reaches s <? reaches (i + 1)) (i + 1) s (le-isnt _ _ h))
 
--- the place of a pair of states
-flat-at : (f : ℕ → ℕ → ℕ) (h l : ℕ) → l < 129 → flat f (h * 129 + l) ≡ f h l
-flat-at f h l lt =
-    let d : (h * 129 + l) / 129 ≡ h = omega arith in
-    let r : (h * 129 + l) % 129 ≡ l = omega arith in
-    ap₂ f d r
+-- the weight with the fragment on a side, by the test whether its state moves on
+pub joined-far : {a b : ℕ} (far here : ℕ) → a < b → far ≡ (if a <? b then far else here)
+joined-far {a} {b} far here h = sym (if-true (a <? b) far here (lt-<? _ _ h))
+
+pub joined-here : {a b : ℕ} (far here : ℕ) → b ≤ a → here ≡ (if a <? b then far else here)
+joined-here {a} {b} far here h = sym (if-false (a <? b) far here (le-isnt _ _ h))
 
 -- a table of weights, by pairs of states
 abbrev pub square : (ℕ → ℕ) → ℕ → ℕ → ℕ
-square v h l = v (h * 129 + l)
+square v h l = v (corner h l)
 
-module _ {f old now : ℕ → ℕ} (h l : ℕ) (s : Sweep f old now (h * 129) (h * 129 + l)) where
-  -- what the fragment reads is as it was
-  pub ahead : (x y : ℕ) → h ≤ x → l ≤ y → square now x y ≡ square old x y
-  ahead x y hx ly = s .rest (x * 129 + y) (λ lo hi. omega arith)
+-- what a row of state h reads: it begins at `start`, the row that h moves to at `next`, and `far` is the weight with side 2 at the state of a fragment that weighs `own`
+pub record RowReads (reaches : ℕ → ℕ) (own i : ℕ) (old : ℕ → ℕ) (h start next far : ℕ) : Type 0 where
+  pub begins : start ≡ rowStart h
+  pub moves : next ≡ rowStart (furthest reaches h i)
+  pub last : far ≡ own + old (corner h (i + 1))
 
-  -- what weight_at hands back is what the row is to hold
-  pub row-weight : (may : ℕ → Bool) (reaches : ℕ → ℕ) (out i one : ℕ) (a : Bool) {r : ℕ} → h ≤ i → l ≤ i → i < 128 → one ≡ furthest reaches h i → a ≡ may h
-      → r ≡ chooseFragment a (may l) out (square now one l) (square now h (furthest reaches l i)) (square now h l) → r ≡ flat (withFragment may reaches out i (square old)) (h * 129 + l)
-  row-weight may reaches out i one a hi li small eo ea e =
-      let x = ahead one l (subst (λ (z : ℕ). h ≤ z) (sym eo) (furthest-range reaches h i hi .0)) (le-refl l) in
-      let y = ahead h (furthest reaches l i) (le-refl h) (furthest-range reaches l i li .0) in
-      let z = ahead h l (le-refl h) (le-refl l) in
-      e ∙ choose-same {b = may l} {out = out} ea refl refl (x ∙ ap (λ (q : ℕ). square old q l) eo) y z ∙ sym (flat-at (withFragment may reaches out i (square old)) h l (omega arith))
+-- the states below l have the fragment at position i before them, in the row of state h
+module _ (may : ℕ → Bool) (reaches : ℕ → ℕ) (own : Rank) (i : ℕ) (old now : ℕ → ℕ) (h l : ℕ) {start next far : ℕ} (reads : RowReads reaches (value own) i old h start next far) (hi : h ≤ i) (lh : l ≤ h)
+    (row : Sweep (along (withFragment may reaches (value own) i (square old)) h) old now (rowStart h) (rowStart h + l)) where
+  -- pairs of states that are not before this one are as they were
+  ahead : (x y : ℕ) → y ≤ x → h ≤ x → l ≤ y → now (rowStart x + y) ≡ square old x y
+  ahead x y yx hx ly = ap now (sym (corner-row x y yx)) ∙ row .rest (corner x y) (λ lo up. let c = corner-least h l x y lh hx ly in omega arith)
 
-  -- and there is room for it
-  pub row-fits : (reaches : ℕ → ℕ) (out : Rank) (i one : ℕ) → h ≤ i → l ≤ i → one ≡ furthest reaches h i → FragmentRoom out h (i + 1) (square old)
-      → Fits out (square now one l) (square now h (furthest reaches l i)) (square now h l)
-  row-fits reaches out i one hi li eo room =
+  one-weight : now (next + l) ≡ square old (furthest reaches h i) l
+  one-weight = let range = furthest-range reaches h i hi .0 in rw (reads .moves) (ahead (furthest reaches h i) l (le-trans lh range) range (le-refl l))
+
+  here-weight : now (start + l) ≡ square old h l
+  here-weight = rw (reads .begins) (ahead h l lh (le-refl h) (le-refl l))
+
+  two-weight : (if reaches l <? reaches (i + 1) then far else value own + now (start + l)) ≡ value own + square old h (furthest reaches l i)
+  two-weight = rw (here-weight, reads .last) (by-test (reaches l <? reaches (i + 1)))
+    where
+      by-test : (b : Bool) → (if b then value own + square old h (i + 1) else value own + square old h l) ≡ value own + square old h (if b then i + 1 else l)
+      by-test true = refl
+      by-test false = refl
+
+  -- there is room for the fragment's own weight
+  pub row-fits : FragmentRoom own h (i + 1) (square old) → Fits own far (now (next + l)) (now (start + l))
+  row-fits room =
       let hr = furthest-range reaches h i hi in
-      let lr = furthest-range reaches l i li in
-      let lo : h ≤ one = subst (λ (z : ℕ). h ≤ z) (sym eo) (hr .0) in
-      let up : one ≤ i + 1 = subst (λ (z : ℕ). z ≤ i + 1) (sym eo) (hr .1) in
       record {
         others = room .others;
         few = room .few;
         fits = room .fits;
-        one-small = subst (AtMost 127 (room .others)) (sym (ahead one l lo (le-refl l))) (room .small one l lo up (omega arith));
-        two-small = subst (AtMost 127 (room .others)) (sym (ahead h (furthest reaches l i) (le-refl h) (lr .0))) (room .small h (furthest reaches l i) (le-refl h) (omega arith) (lr .1));
-        rest-small = subst (AtMost 127 (room .others)) (sym (ahead h l (le-refl h) (le-refl l))) (room .small h l (le-refl h) (omega arith) (omega arith));
+        far-small = rw (reads .last) (own-small own (room .few) (room .small h (i + 1) (le-refl h) (omega arith) (le-refl (i + 1))));
+        one-small = rw one-weight (room .small (furthest reaches h i) l (hr .0) (hr .1) (omega arith));
+        rest-small = rw here-weight (room .small h l (le-refl h) (omega arith) (omega arith));
       }
 
--- ---- sweeps that end where a number by another name says
-
-pub sweep-at : {f old now : ℕ → ℕ} {a j k : ℕ} → Sweep f old now a j → j ≡ k → Sweep f old now a k
-sweep-at {f} {old} {now} {a} s e = subst (Sweep f old now a) e s
-
-pub sweep-none-at : (f old : ℕ → ℕ) (a : ℕ) → Sweep f old old a (a + 0)
-sweep-none-at f old a = sweep-at (sweep-none f old a) (omega arith)
+  -- one place more
+  pub row-more : {after : ℕ → ℕ} (a : Bool) {r : ℕ} → a ≡ may h
+      → r ≡ keepFragment a (may l) (value own + now (next + l)) (if reaches l <? reaches (i + 1) then far else value own + now (start + l)) (now (start + l))
+      → Put now after (start + l) r → Sweep (along (withFragment may reaches (value own) i (square old)) h) old after (rowStart h) (rowStart h + (l + 1))
+  row-more {after} a {r} ea er put =
+      let f = withFragment may reaches (value own) i (square old) in
+      let is : r ≡ f h l = er ∙ rw (ea, one-weight, two-weight, here-weight) in
+      let it : l ≡ rowStart h + l - rowStart h = omega arith in
+      let e : rowStart h + l + 1 ≡ rowStart h + (l + 1) = omega arith in
+      sweep-at (sweep-more (omega arith) row (put-as (subst (λ (x : ℕ). Put now after (x + l) r) (reads .begins) put) (is ∙ ap (f h) it))) e
 
 -- ---- rows
 
-pub rows-none : (f old : ℕ → ℕ → ℕ) (n : ℕ) → Rows f old old n 0
-rows-none f old n = record { done = λ s q l. absurd (omega arith); rest = λ s q l out. refl }
+pub rows-none : (f : ℕ → ℕ → ℕ) (old : ℕ → ℕ) → Rows f old old 0
+rows-none f old = record { done = λ s q l k. absurd (omega arith); rest = λ j l. refl }
 
-module _ (may : ℕ → Bool) (reaches : ℕ → ℕ) (out i : ℕ) (old now : ℕ → ℕ) (h : ℕ) (hi : h ≤ i) (small : i < 128)
-    (rows : Rows (withFragment may reaches out i (square old)) (square old) (square now) (i + 1) h) where
+max-swap-le : (a b c : ℕ) → max (max a b) c ≤ max (max a c) b
+max-swap-le a b c =
+    let ac = le-max-left (max a c) b in
+    max-le (max-le (le-trans (le-max-left a c) ac) (le-max-right (max a c) b)) (le-trans (le-max-right a c) ac)
+
+-- the sides are alike
+keep-swap : (a b : Bool) (x y z : ℕ) → keepFragment a b x y z ≡ keepFragment b a y x z
+keep-swap true true x y z = le-antisymm (max-swap-le z y x) (max-swap-le z x y)
+keep-swap true false x y z = refl
+keep-swap false true x y z = refl
+keep-swap false false x y z = refl
+
+module _ (may : ℕ → Bool) (reaches : ℕ → ℕ) (own i : ℕ) (old now : ℕ → ℕ) (h : ℕ) (rows : Rows (withFragment may reaches own i (square old)) old now h) where
   -- the rows from h on are as they were
-  below-rows : (s q : ℕ) → h ≤ s → q ≤ i + 1 → square now s q ≡ square old s q
-  below-rows s q hs l = rows .rest s q (omega arith) (λ k. absurd (omega arith))
+  below-rows : (s q : ℕ) → h ≤ s → square now s q ≡ square old s q
+  below-rows s q hs = rows .rest (corner s q) (let c = corner-least h 0 s q zero-le hs zero-le in omega arith)
 
   -- the next row has room
   pub rows-room : (r : Rank) → FragmentRoom r 0 (i + 1) (square old) → FragmentRoom r h (i + 1) (square now)
@@ -154,32 +202,50 @@ module _ (may : ℕ → Bool) (reaches : ℕ → ℕ) (out i : ℕ) (old now : �
     others = room .others;
     few = room .few;
     fits = room .fits;
-    small = λ s q hs sn qn. subst (AtMost 127 (room .others)) (sym (below-rows s q hs qn)) (room .small s q (omega arith) sn qn);
+    small = λ s q hs sn qn. rw (below-rows s q hs) (room .small s q (omega arith) sn qn);
   }
 
   -- one row more
-  pub rows-more : {next : ℕ → ℕ} → Sweep (flat (withFragment may reaches out i (square now))) now next (h * 129) (h * 129 + (i + 1))
-      → Rows (withFragment may reaches out i (square old)) (square old) (square next) (i + 1) (h + 1)
-  rows-more {next} s = record { done = done; rest = rest }
+  pub rows-more : {next : ℕ → ℕ} → h ≤ i → Sweep (along (withFragment may reaches own i (square now)) h) now next (rowStart h) (rowStart h + (h + 1))
+      → Rows (withFragment may reaches own i (square old)) old next (h + 1)
+  rows-more {next} hi s = record { done = done; rest = rest }
     where
-      made : (q : ℕ) → q < i + 1 → square next h q ≡ withFragment may reaches out i (square old) h q
+      ends : rowStart (h + 1) ≡ rowStart h + (h + 1)
+      ends = rw (add-one h) (row-next h)
+
+      made : (q : ℕ) → q ≤ h → next (rowStart h + q) ≡ withFragment may reaches own i (square old) h q
       made q l =
-          let hr = furthest-range reaches h i hi in
-          let qr = furthest-range reaches q i (omega arith) in
-          s .done (h * 129 + q) (omega arith) (omega arith) ∙ flat-at (withFragment may reaches out i (square now)) h q (omega arith)
-          ∙ choose-same {a = may h} {b = may q} {out = out} refl refl refl (below-rows (furthest reaches h i) q (hr .0) (omega arith)) (below-rows h (furthest reaches q i) (le-refl h) (qr .1)) (below-rows h q (le-refl h) (omega arith))
+          let it : rowStart h + q - rowStart h ≡ q = omega arith in
+          s .done (rowStart h + q) (omega arith) (omega arith) ∙ ap (withFragment may reaches own i (square now) h) it
+          ∙ keep-same {a = may h} {b = may q} {own = own} refl refl refl (below-rows (furthest reaches h i) q (furthest-range reaches h i hi .0)) (below-rows h (furthest reaches q i) (le-refl h)) (below-rows h q (le-refl h))
 
-      untouched : (a q : ℕ) → q < 129 → (a ≡ h → q < i + 1 → ⊥) → square next a q ≡ square now a q
-      untouched a q l out = s .rest (a * 129 + q) (λ lo hi. out (omega arith) (omega arith))
-
-      done : (a q : ℕ) → a < h + 1 → q < i + 1 → square next a q ≡ withFragment may reaches out i (square old) a q
-      done a q la lq = elim (ℕ-discrete a h) [
-        | yes e ↦ subst (λ (x : ℕ). square next x q ≡ withFragment may reaches out i (square old) x q) (sym e) (made q lq)
-        | no ne ↦ untouched a q (omega arith) (λ e. absurd (ne e)) ∙ rows .done a q (omega arith) lq
+      done : (a q : ℕ) → q ≤ a → a < h + 1 → next (rowStart a + q) ≡ withFragment may reaches own i (square old) a q
+      done a q qa la = elim (ℕ-discrete a h) [
+        | yes e ↦ subst (λ (x : ℕ). next (rowStart x + q) ≡ withFragment may reaches own i (square old) x q) (sym e) (made q (omega arith))
+        | no ne ↦ s .rest (rowStart a + q) (λ lo up. let c = row-after a h (omega arith) in omega arith) ∙ rows .done a q qa (omega arith)
       ]
 
-      rest : (a q : ℕ) → q < 129 → (a < h + 1 → q < i + 1 → ⊥) → square next a q ≡ square old a q
-      rest a q l out = untouched a q l (λ e lq. out (omega arith) lq) ∙ rows .rest a q l (λ la lq. out (omega arith) lq)
+      rest : (j : ℕ) → rowStart (h + 1) ≤ j → next j ≡ old j
+      rest j l = s .rest j (λ lo up. omega (arith, ends)) ∙ rows .rest j (omega (arith, ends))
+
+  -- all rows: a pair is made whichever side is at which state
+  pub rows-made : (n : ℕ) → n ≤ h → Made (withFragment may reaches own i (square old)) (square now) n
+  rows-made n nh = record { made = made }
+    where
+      alike : (v : ℕ → ℕ) (x y : ℕ) → square v x y ≡ square v y x
+      alike v x y = ap v (corner-swap x y)
+
+      lower : (a q : ℕ) → q ≤ a → a < n → square now a q ≡ withFragment may reaches own i (square old) a q
+      lower a q qa la = ap now (corner-row a q qa) ∙ rows .done a q qa (omega arith)
+
+      made : (a q : ℕ) → a < n → q < n → square now a q ≡ withFragment may reaches own i (square old) a q
+      made a q la lq = elim (decLe q a) [
+        | yes l ↦ lower a q l la
+        | no l ↦
+            alike now a q ∙ lower q a (omega arith) lq
+            ∙ keep-swap (may q) (may a) (own + square old (furthest reaches q i) a) (own + square old q (furthest reaches a i)) (square old q a)
+            ∙ keep-same {a = may a} {b = may q} {own = own} refl refl refl (alike old q (furthest reaches a i)) (alike old (furthest reaches q i) a) (alike old q a)
+      ]
 
 -- ---- what the table holds
 
@@ -189,8 +255,8 @@ unfolding marked
 begins-marks p n list b s h = rw (b .begins s h) (same-test (0 <? bit (p s)) (p s) (bit-marked (p s)) (marked-bit (p s)))
 
 -- a table of zeros
-pub zeros-pairs : (before counts : List ℕ) → Cleared before counts → (h l : ℕ) → pairs counts (replicate 16641 0) (replicate 16641 0) h l ≡ 0
-zeros-pairs before counts e h l = subst (λ (x : List ℕ). pairs x (replicate 16641 0) (replicate 16641 0) h l ≡ 0) (sym (e .zeros)) (zeros-at (length before) 16641 16641 (h * 129 + l))
+pub zeros-pairs : (before counts : List ℕ) → Cleared before counts → (h l : ℕ) → pairs counts (replicate 8385 0) (replicate 8385 0) h l ≡ 0
+zeros-pairs before counts e h l = subst (λ (x : List ℕ). pairs x (replicate 8385 0) (replicate 8385 0) h l ≡ 0) (sym (e .zeros)) (zeros-at (length before) 8385 8385 (corner h l))
 
 -- a buffer of zeros
 pub cleared-as : {before new : List ℕ} (old : List ℕ) → Cleared before new → length new ≡ length old → new ≡ replicate (length old) 0
@@ -200,13 +266,13 @@ cleared-as {before} old e same =
 module _ (g : Grid) where
   -- no fragment yet
   pub holds-none : (v : ℕ → ℕ → ℕ) → ((h l : ℕ) → v h l ≡ 0) → HoldsFragments g 0 v
-  unfolding leastFragmentWeight
+  unfolding mostKept
   holds-none v zeros = record { holds = λ h l hh hl. zeros h l }
 
   module _ (k i : ℕ) (v : ℕ → ℕ → ℕ) (k-in : k < g .m) (is : i ≡ g .m - 1 - k) (held : HoldsFragments g k v) where
     opened : (h l : ℕ) → i ≡ g .m - suc k
-        → withFragment (λ s. mayJoin g s i) (stateReach g) (removal i) i (leastFragmentWeight g k) h l ≡ leastFragmentWeight g (suc k) h l
-    unfolding leastFragmentWeight
+        → withFragment (λ s. mayJoin g s i) (stateReach g) (removal i) i (mostKept g k) h l ≡ mostKept g (suc k) h l
+    unfolding mostKept
     opened h l e = rw e
 
     -- the places of the fragments from i on fit
@@ -219,17 +285,17 @@ module _ (g : Grid) where
         let e = ap place at′ in
         omega arith
 
-    -- room for the next removal
-    pub holds-room : g .m ≤ 128 → (out : Rank) → out .high < 2 ^ 64 → out .low < 2 ^ 64 → value out ≡ removal i → FragmentRoom out 0 (i + 1) v
-    holds-room small out hh hl e =
+    -- room for the next fragment
+    pub holds-room : g .m ≤ 128 → (own : Rank) → own .high < 2 ^ 64 → own .low < 2 ^ 64 → value own ≡ removal i → FragmentRoom own 0 (i + 1) v
+    holds-room small own hh hl e =
         let others = lastSum place (g .m) k in
         let f = places-fit small in
-        let parts = parts-small out hh hl e (one-removed (place i)) (below _ others f) in
+        let parts = parts-small own hh hl e (one-removed (place i)) (below _ others f) in
         record {
           others = others;
           few = parts .0;
           fits = within others (parts .1) f;
-          small = λ s q lo hs hq. subst (AtMost 127 others) (sym (held .holds s q (omega arith) (omega arith))) (atMost-more (omega arith) (le-refl others) (programme-small g k s q));
+          small = λ s q lo hs hq. subst (AtMost 127 others) (sym (held .holds s q (omega arith) (omega arith))) (atMost-more (omega arith) (le-refl others) (kept-small g k s q));
         }
       where
         below : (p s : ℕ) {t : ℕ} → p + s < t → p < t
@@ -239,20 +305,20 @@ module _ (g : Grid) where
         within s l h = omega arith
 
     -- one fragment more
-    pub holds-more : (may : ℕ → Bool) (reaches : ℕ → ℕ) (out : ℕ) (w : ℕ → ℕ → ℕ) → ((s : ℕ) → s < i + 1 → may s ≡ mayJoin g s i)
-        → ((s : ℕ) → s < g .m + 1 → reaches s ≡ stateReach g s) → out ≡ removal i → Made (withFragment may reaches out i v) w (i + 1) → HoldsFragments g (k + 1) w
-    holds-more may reaches out w joins reach eo made = record { holds = holds }
+    pub holds-more : (may : ℕ → Bool) (reaches : ℕ → ℕ) (own : ℕ) (w : ℕ → ℕ → ℕ) → ((s : ℕ) → s < i + 1 → may s ≡ mayJoin g s i)
+        → ((s : ℕ) → s < g .m + 1 → reaches s ≡ stateReach g s) → own ≡ removal i → Made (withFragment may reaches own i v) w (i + 1) → HoldsFragments g (k + 1) w
+    holds-more may reaches own w joins reach eo made = record { holds = holds }
       where
         step : (s : ℕ) → s ≤ i → furthest reaches s i ≡ furthest (stateReach g) s i
         step s l = ap₂ (λ (x y : ℕ). if x <? y then i + 1 else s) (reach s (omega arith)) (reach (i + 1) (omega arith))
 
-        holds : (h l : ℕ) → h ≤ g .m - (k + 1) → l ≤ g .m - (k + 1) → w h l ≡ leastFragmentWeight g (k + 1) h l
+        holds : (h l : ℕ) → h ≤ g .m - (k + 1) → l ≤ g .m - (k + 1) → w h l ≡ mostKept g (k + 1) h l
         holds h l hh hl =
             let hr = furthest-range reaches h i (omega arith) in
             let lr = furthest-range reaches l i (omega arith) in
             made .made h l (omega arith) (omega arith)
-            ∙ choose-same (joins h (omega arith)) (joins l (omega arith)) eo
-            (held .holds (furthest reaches h i) l (omega arith) (omega arith) ∙ ap (λ (x : ℕ). leastFragmentWeight g k x l) (step h (omega arith)))
-            (held .holds h (furthest reaches l i) (omega arith) (omega arith) ∙ ap (leastFragmentWeight g k h) (step l (omega arith)))
+            ∙ keep-same (joins h (omega arith)) (joins l (omega arith)) eo
+            (held .holds (furthest reaches h i) l (omega arith) (omega arith) ∙ ap (λ (x : ℕ). mostKept g k x l) (step h (omega arith)))
+            (held .holds h (furthest reaches l i) (omega arith) (omega arith) ∙ ap (mostKept g k h) (step l (omega arith)))
             (held .holds h l (omega arith) (omega arith))
             ∙ opened h l (omega arith) ∙ rw (add-one k)

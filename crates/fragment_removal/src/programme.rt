@@ -1,19 +1,23 @@
-// The programme over the last fragments, one more at a time and in place: one least weight for each pair of states (paper 001, section 5.2).
+// The programme over the last fragments, one more at a time and in place: one weight for each pair of states (paper 001, section 5.2).
+// It is the greatest of what is kept, which is least in what is removed: where a fragment joins neither side nothing changes.
+// The sides are alike, so a pair of states has one place, in the row of the later one.
 use fragment_states::fill_agreements;
 use ranks::rank::Rank;
 use ranks::table;
 ghost use mathlib.Core.Path.{_≡_};
-ghost use Prim.Native.Nat.{_+_, _*_, _-_, _<_, _≤_, min};
+ghost use mathlib.Core.Bool.{true, false};
+ghost use Prim.Native.Nat.{_+_, _-_, _<_, _≤_, max};
 ghost use lib.ListN.{length, replicate};
-ghost use Rattle.below.specs.Below.{if_then_else_, tab, nth};
+ghost use Rattle.below.specs.Below.{if_then_else_, _<?_, tab, nth};
 ghost use Rattle.conflicts.specs.Choice.{marked, zeros};
-ghost use Rattle.matrix.specs.Algorithm.Matrix.{matrixGrid, Gapless};
+ghost use Rattle.matrix.specs.Algorithm.Matrix.{Gapless};
+ghost use Rattle.masks.specs.Algorithm.Masks.{wordsGrid};
 ghost use Rattle.conflicts.specs.Removal.{fragmentKeepMarks};
 ghost use Rattle.ranks.specs.Algorithm.Weight.{digitAt};
-ghost use Rattle.ranks.specs.Algorithm.Reading.{code, value};
-ghost use Rattle.ranks.specs.Algorithm.Tables.{at, Inside, Sweep};
-ghost use Rattle.fragment_removal.specs.Algorithm.Programme.{furthest, chooseFragment, withFragment};
-ghost use Rattle.fragment_removal.specs.Algorithm.Pairs.{pairs, flat, Prepared, PairPlaces, Fits, FragmentRoom, Made, HoldsFragments};
+ghost use Rattle.ranks.specs.Algorithm.Reading.{code, value, SumFits};
+ghost use Rattle.ranks.specs.Algorithm.Tables.{at, Inside, Put, Sweep};
+ghost use Rattle.fragment_removal.specs.Algorithm.Programme.{furthest, keepFragment, withFragment};
+ghost use Rattle.fragment_removal.specs.Algorithm.Pairs.{rowStart, pairs, along, Prepared, PairPlaces, Fits, FragmentRoom, Made, HoldsFragments};
 
 // The state of a side once the fragment at position i has joined it.
 fn furthest_of(reaches: &[u8], s: usize, i: usize) -> usize
@@ -27,6 +31,19 @@ fn furthest_of(reaches: &[u8], s: usize, i: usize) -> usize
     s
 }
 
+// One weight is less than another. One test, so that what is chosen by it needs no jump for each part.
+fn precedes(one: Rank, other: Rank) -> bool
+    ensures { λ r. ⌜ r ≡ (value one <? value other) ⌝ }
+{
+    if one.count != other.count {
+        return one.count < other.count;
+    }
+    if one.high != other.high {
+        return one.high < other.high;
+    }
+    one.low < other.low
+}
+
 // A mark says yes.
 fn is_marked(marks: &[u8], s: usize) -> bool
     requires { ⌜ s < length (now marks) ⌝ }
@@ -35,70 +52,189 @@ fn is_marked(marks: &[u8], s: usize) -> bool
     0 < marks[s]
 }
 
-// The lesser of a weight and that at place j, which is read only where it may be taken.
-fn lesser_at(best: Rank, may: bool, counts: &[u16], highs: &[u64], lows: &[u64], j: usize) -> Rank
-    requires { ⌜ Inside (now counts) (now highs) (now lows) j ⌝ }
-    ensures { λ r. ⌜ value r ≡ if may then min (value best) (at (now (counts .entry)) (now (highs .entry)) (now (lows .entry)) j) else value best ⌝ }
+// The greater of two weights.
+fn greater(one: Rank, other: Rank) -> Rank
+    ensures { λ r. ⌜ value r ≡ max (value one) (value other) ⌝ }
 {
-    if may {
-        return best.lesser(table::get(counts, highs, lows, j));
+    if precedes(one, other) {
+        return other;
     }
-    best
+    one
 }
 
-// The least weight at states h and l with the fragment at position i before those of the table. It weighs `out` if it is removed, and joins side 1 where it `may`, which is then at state `one`.
+// The greater of the weight `here`, without the fragment at position i, and that with it on a side at state l, if it may join it: the side moves on, to `far`, or stays.
+fn greater_joined(
+    here: Rank,
+    may: bool,
+    reaches: &[u8],
+    l: usize,
+    i: usize,
+    far: Rank,
+    own: Rank,
+) -> Rank
+    requires { ⌜ (length (now reaches) ≡ 129) × (l ≤ i) × (i < 128) × SumFits own here ⌝ }
+    ensures { λ r. ⌜ value r ≡ if may then max (value here) (if nth (now (reaches .entry)) l <? nth (now (reaches .entry)) (i + 1) then value far else value own + value here) else value here ⌝ }
+{
+    if may {
+        if reaches[l] < reaches[i + 1] {
+            return greater(here, far);
+        }
+        return own.plus(here);
+    }
+    here
+}
+
+// The greatest weight at the pair of states at place j, side 2 at state l, with the fragment at position i before those of the table, which may join side 1. Kept, it adds its own weight: on side 2, where it
+// weighs `far` if that moves on, or on side 1, which takes the pair to place k.
 fn weight_at(
     counts: &[u16],
     highs: &[u64],
     lows: &[u64],
     agrees: &[u8],
     reaches: &[u8],
-    out: Rank,
+    own: Rank,
+    far: Rank,
     i: usize,
-    h: usize,
     l: usize,
-    one: usize,
-    may: bool,
+    j: usize,
+    k: usize,
 ) -> Rank
-    requires { ⌜ PairPlaces (now counts) (now highs) (now lows) × (length (now agrees) ≡ 129) × (length (now reaches) ≡ 129) × (h ≤ i) × (l ≤ i) × (i < 128) × (one ≤ i + 1)
-        × Fits out (pairs (now counts) (now highs) (now lows) one l) (pairs (now counts) (now highs) (now lows) h (furthest (nth (now reaches)) l i)) (pairs (now counts) (now highs) (now lows) h l) ⌝ }
-    ensures { λ r. ⌜ (value r ≡ chooseFragment may (marked (now (agrees .entry)) l) (value out) (pairs (now (counts .entry)) (now (highs .entry)) (now (lows .entry)) one l)
-        (pairs (now (counts .entry)) (now (highs .entry)) (now (lows .entry)) h (furthest (nth (now (reaches .entry))) l i)) (pairs (now (counts .entry)) (now (highs .entry)) (now (lows .entry)) h l))
+    requires { ⌜ Inside (now counts) (now highs) (now lows) j × Inside (now counts) (now highs) (now lows) k × (length (now agrees) ≡ 129) × (length (now reaches) ≡ 129) × (l ≤ i) × (i < 128)
+        × Fits own (value far) (at (now counts) (now highs) (now lows) k) (at (now counts) (now highs) (now lows) j) ⌝ }
+    ensures { λ r. ⌜ (value r ≡ keepFragment true (marked (now (agrees .entry)) l) (value own + at (now (counts .entry)) (now (highs .entry)) (now (lows .entry)) k)
+        (if nth (now (reaches .entry)) l <? nth (now (reaches .entry)) (i + 1) then value far else value own + at (now (counts .entry)) (now (highs .entry)) (now (lows .entry)) j) (at (now (counts .entry)) (now (highs .entry)) (now (lows .entry)) j))
         × (r .count < 65536) ⌝ }
 {
-    let two = furthest_of(reaches, l, i);
-    let may_two = is_marked(agrees, l);
-    let here = table::get(counts, highs, lows, h * 129 + l);
-    let gone = out.plus(here);
-    let best = lesser_at(gone, may_two, counts, highs, lows, h * 129 + two);
-    lesser_at(best, may, counts, highs, lows, one * 129 + l)
+    let here = table::get(counts, highs, lows, j);
+    let may = is_marked(agrees, l);
+    let best = greater_joined(here, may, reaches, l, i, far, own);
+    let one = own.plus(table::get(counts, highs, lows, k));
+    greater(best, one)
 }
 
-// The fragment at position i, at state h of side 1 and every state of side 2 before it.
+// Puts that weight where the fragment does not join side 1: it stays as it is, unless the fragment joins side 2.
+fn put_apart(
+    counts: &mut [u16],
+    highs: &mut [u64],
+    lows: &mut [u64],
+    agrees: &[u8],
+    reaches: &[u8],
+    own: Rank,
+    far: Rank,
+    i: usize,
+    l: usize,
+    j: usize,
+)
+    requires { ⌜ Inside (now counts) (now highs) (now lows) j × (length (now agrees) ≡ 129) × (length (now reaches) ≡ 129) × (l ≤ i) × (i < 128)
+        × Fits own (value far) (at (now counts) (now highs) (now lows) j) (at (now counts) (now highs) (now lows) j) ⌝ }
+    ensures { λ _. ⌜ Put (at (now (counts .entry)) (now (highs .entry)) (now (lows .entry))) (at (now (counts .exit)) (now (highs .exit)) (now (lows .exit))) j
+        (keepFragment false (marked (now (agrees .entry)) l) 0
+        (if nth (now (reaches .entry)) l <? nth (now (reaches .entry)) (i + 1) then value far else value own + at (now (counts .entry)) (now (highs .entry)) (now (lows .entry)) j) (at (now (counts .entry)) (now (highs .entry)) (now (lows .entry)) j)) ⌝ }
+{
+    if is_marked(agrees, l) {
+        let here = table::get(counts, highs, lows, j);
+        let r = greater_joined(here, true, reaches, l, i, far, own);
+        table::put(counts, highs, lows, j, r);
+    }
+}
+
+// Where the row of state h begins.
+fn row_start(h: usize) -> usize
+    requires { ⌜ h ≤ 128 ⌝ }
+    ensures { λ r. ⌜ r ≡ rowStart h ⌝ }
+{
+    h * (h + 1) / 2
+}
+
+// The fragment at position i, which joins side 1, at state h of it and every state of side 2 up to it.
+fn row_joined(
+    counts: &mut [u16],
+    highs: &mut [u64],
+    lows: &mut [u64],
+    agrees: &[u8],
+    reaches: &[u8],
+    own: Rank,
+    far: Rank,
+    i: usize,
+    h: usize,
+)
+    requires { ⌜ PairPlaces (now counts) (now highs) (now lows) × (length (now agrees) ≡ 129) × (length (now reaches) ≡ 129) × (h ≤ i) × (i < 128)
+        × FragmentRoom own h (i + 1) (pairs (now counts) (now highs) (now lows)) × (value far ≡ value own + pairs (now counts) (now highs) (now lows) h (i + 1)) × (marked (now agrees) h ≡ true) ⌝ }
+    ensures { λ _. ⌜ Sweep (along (withFragment (marked (now (agrees .entry))) (nth (now (reaches .entry))) (value own) i (pairs (now (counts .entry)) (now (highs .entry)) (now (lows .entry)))) h)
+        (at (now (counts .entry)) (now (highs .entry)) (now (lows .entry))) (at (now (counts .exit)) (now (highs .exit)) (now (lows .exit))) (rowStart h) (rowStart h + (h + 1)) ⌝ }
+{
+    let one = furthest_of(reaches, h, i);
+    let start = row_start(h);
+    let next = row_start(one);
+    let mut l = 0;
+    while l <= h {
+        let j = start + l;
+        let k = next + l;
+        let r = weight_at(counts, highs, lows, agrees, reaches, own, far, i, l, j, k);
+        table::put(counts, highs, lows, j, r);
+        l += 1;
+    }
+}
+
+// The same where it does not join side 1.
+fn row_apart(
+    counts: &mut [u16],
+    highs: &mut [u64],
+    lows: &mut [u64],
+    agrees: &[u8],
+    reaches: &[u8],
+    own: Rank,
+    far: Rank,
+    i: usize,
+    h: usize,
+)
+    requires { ⌜ PairPlaces (now counts) (now highs) (now lows) × (length (now agrees) ≡ 129) × (length (now reaches) ≡ 129) × (h ≤ i) × (i < 128)
+        × FragmentRoom own h (i + 1) (pairs (now counts) (now highs) (now lows)) × (value far ≡ value own + pairs (now counts) (now highs) (now lows) h (i + 1)) × (marked (now agrees) h ≡ false) ⌝ }
+    ensures { λ _. ⌜ Sweep (along (withFragment (marked (now (agrees .entry))) (nth (now (reaches .entry))) (value own) i (pairs (now (counts .entry)) (now (highs .entry)) (now (lows .entry)))) h)
+        (at (now (counts .entry)) (now (highs .entry)) (now (lows .entry))) (at (now (counts .exit)) (now (highs .exit)) (now (lows .exit))) (rowStart h) (rowStart h + (h + 1)) ⌝ }
+{
+    let start = row_start(h);
+    let states = h + 1;
+    let mut l = 0;
+    while l < states {
+        put_apart(
+            counts,
+            highs,
+            lows,
+            agrees,
+            reaches,
+            own,
+            far,
+            i,
+            l,
+            start + l,
+        );
+        l += 1;
+    }
+}
+
+// The fragment at position i, at state h of side 1 and every state of side 2 up to it.
 fn row(
     counts: &mut [u16],
     highs: &mut [u64],
     lows: &mut [u64],
     agrees: &[u8],
     reaches: &[u8],
-    out: Rank,
+    own: Rank,
     i: usize,
     h: usize,
 )
     requires { ⌜ PairPlaces (now counts) (now highs) (now lows) × (length (now agrees) ≡ 129) × (length (now reaches) ≡ 129) × (h ≤ i) × (i < 128)
-        × FragmentRoom out h (i + 1) (pairs (now counts) (now highs) (now lows)) ⌝ }
-    ensures { λ _. ⌜ Sweep (flat (withFragment (marked (now (agrees .entry))) (nth (now (reaches .entry))) (value out) i (pairs (now (counts .entry)) (now (highs .entry)) (now (lows .entry)))))
-        (at (now (counts .entry)) (now (highs .entry)) (now (lows .entry))) (at (now (counts .exit)) (now (highs .exit)) (now (lows .exit))) (h * 129) (h * 129 + (i + 1)) ⌝ }
+        × FragmentRoom own h (i + 1) (pairs (now counts) (now highs) (now lows)) ⌝ }
+    ensures { λ _. ⌜ Sweep (along (withFragment (marked (now (agrees .entry))) (nth (now (reaches .entry))) (value own) i (pairs (now (counts .entry)) (now (highs .entry)) (now (lows .entry)))) h)
+        (at (now (counts .entry)) (now (highs .entry)) (now (lows .entry))) (at (now (counts .exit)) (now (highs .exit)) (now (lows .exit))) (rowStart h) (rowStart h + (h + 1)) ⌝ }
 {
-    let one = furthest_of(reaches, h, i);
-    let may = is_marked(agrees, h);
-    let start = h * 129;
-    let states = i + 1;
-    let mut l = 0;
-    while l < states {
-        let r = weight_at(counts, highs, lows, agrees, reaches, out, i, h, l, one, may);
-        table::put(counts, highs, lows, start + l, r);
-        l += 1;
+    let last = row_start(i + 1);
+    let far = own.plus(table::get(counts, highs, lows, last + h));
+    if is_marked(agrees, h) {
+        row_joined(counts, highs, lows, agrees, reaches, own, far, i, h);
+    } else {
+        row_apart(counts, highs, lows, agrees, reaches, own, far, i, h);
     }
 }
 
@@ -109,18 +245,18 @@ fn layer(
     lows: &mut [u64],
     agrees: &[u8],
     reaches: &[u8],
-    out: Rank,
+    own: Rank,
     i: usize,
 )
     requires { ⌜ PairPlaces (now counts) (now highs) (now lows) × (length (now agrees) ≡ 129) × (length (now reaches) ≡ 129) × (i < 128)
-        × FragmentRoom out 0 (i + 1) (pairs (now counts) (now highs) (now lows)) ⌝ }
-    ensures { λ _. ⌜ Made (withFragment (marked (now (agrees .entry))) (nth (now (reaches .entry))) (value out) i (pairs (now (counts .entry)) (now (highs .entry)) (now (lows .entry))))
+        × FragmentRoom own 0 (i + 1) (pairs (now counts) (now highs) (now lows)) ⌝ }
+    ensures { λ _. ⌜ Made (withFragment (marked (now (agrees .entry))) (nth (now (reaches .entry))) (value own) i (pairs (now (counts .entry)) (now (highs .entry)) (now (lows .entry))))
         (pairs (now (counts .exit)) (now (highs .exit)) (now (lows .exit))) (i + 1) ⌝ }
 {
     let states = i + 1;
     let mut h = 0;
     while h < states {
-        row(counts, highs, lows, agrees, reaches, out, i, h);
+        row(counts, highs, lows, agrees, reaches, own, i, h);
         h += 1;
     }
 }
@@ -129,7 +265,6 @@ fn layer(
 fn extend(
     m: usize,
     n: usize,
-    cells: &[u8],
     masks: &[u64],
     reaches: &[u8],
     counts: &mut [u16],
@@ -137,47 +272,46 @@ fn extend(
     lows: &mut [u64],
     k: usize,
 )
-    requires { ⌜ Prepared m n (now cells) (now masks) (now reaches) × (k < m) × PairPlaces (now counts) (now highs) (now lows)
-        × HoldsFragments (matrixGrid m n (now cells)) k (pairs (now counts) (now highs) (now lows)) ⌝ }
-    ensures { λ _. ⌜ HoldsFragments (matrixGrid m n (now (cells .entry))) (k + 1) (pairs (now (counts .exit)) (now (highs .exit)) (now (lows .exit))) ⌝ }
+    requires { ⌜ Prepared m n (now masks) (now reaches) × (k < m) × PairPlaces (now counts) (now highs) (now lows)
+        × HoldsFragments (wordsGrid m n (now masks)) k (pairs (now counts) (now highs) (now lows)) ⌝ }
+    ensures { λ _. ⌜ HoldsFragments (wordsGrid m n (now (masks .entry))) (k + 1) (pairs (now (counts .exit)) (now (highs .exit)) (now (lows .exit))) ⌝ }
 {
     let i = m - 1 - k;
     let mut agrees = [0u8; 129];
     fill_agreements(masks, i, &mut agrees);
-    let out = Rank::single(1, i);
-    layer(counts, highs, lows, &agrees, reaches, out, i);
+    let own = Rank::single(1, i);
+    layer(counts, highs, lows, &agrees, reaches, own, i);
 }
 
 // All fragments, from a table of zeros.
 fn suffixes(
     m: usize,
     n: usize,
-    cells: &[u8],
     masks: &[u64],
     reaches: &[u8],
     counts: &mut [u16],
     highs: &mut [u64],
     lows: &mut [u64],
 )
-    requires { ⌜ Prepared m n (now cells) (now masks) (now reaches) × PairPlaces (now counts) (now highs) (now lows)
-        × HoldsFragments (matrixGrid m n (now cells)) 0 (pairs (now counts) (now highs) (now lows)) ⌝ }
-    ensures { λ _. ⌜ HoldsFragments (matrixGrid m n (now (cells .entry))) m (pairs (now (counts .exit)) (now (highs .exit)) (now (lows .exit))) ⌝ }
+    requires { ⌜ Prepared m n (now masks) (now reaches) × PairPlaces (now counts) (now highs) (now lows)
+        × HoldsFragments (wordsGrid m n (now masks)) 0 (pairs (now counts) (now highs) (now lows)) ⌝ }
+    ensures { λ _. ⌜ HoldsFragments (wordsGrid m n (now (masks .entry))) m (pairs (now (counts .exit)) (now (highs .exit)) (now (lows .exit))) ⌝ }
 {
     let mut k = 0;
     while k < m {
-        extend(m, n, cells, masks, reaches, counts, highs, lows, k);
+        extend(m, n, masks, reaches, counts, highs, lows, k);
         k += 1;
     }
 }
 
-// The keep marks of the set in a weight.
+// The marks of the set in a weight, which are the keep marks of what it keeps.
 fn decode(r: Rank, m: usize, keep: &mut [u8])
     requires { ⌜ (m ≤ 128) × (length (now keep) ≡ m) ⌝ }
-    ensures { λ _. ⌜ now (keep .exit) ≡ tab m (λ p. 1 - digitAt (code r) p) ⌝ }
+    ensures { λ _. ⌜ now (keep .exit) ≡ tab m (λ p. digitAt (code r) p) ⌝ }
 {
     let mut p = 0;
     while p < m {
-        keep[p] = 1 - r.digit(p);
+        keep[p] = r.digit(p);
         p += 1;
     }
 }
@@ -186,22 +320,21 @@ fn decode(r: Rank, m: usize, keep: &mut [u8])
 pub(crate) fn least(
     m: usize,
     n: usize,
-    cells: &[u8],
     masks: &[u64],
     reaches: &[u8],
     work: &mut [u16],
     keep: &mut [u8],
 ) -> usize
-    requires { ⌜ Prepared m n (now cells) (now masks) (now reaches) × Gapless (matrixGrid m n (now cells)) × (16641 ≤ length (now work)) × (length (now keep) ≡ m) ⌝ }
-    ensures { λ r. ⌜ (now (keep .exit) ≡ fragmentKeepMarks (matrixGrid m n (now (cells .entry)))) × (r ≡ zeros (fragmentKeepMarks (matrixGrid m n (now (cells .entry)))))
+    requires { ⌜ Prepared m n (now masks) (now reaches) × Gapless (wordsGrid m n (now masks)) × (16641 ≤ length (now work)) × (length (now keep) ≡ m) ⌝ }
+    ensures { λ r. ⌜ (now (keep .exit) ≡ fragmentKeepMarks (wordsGrid m n (now (masks .entry)))) × (r ≡ zeros (fragmentKeepMarks (wordsGrid m n (now (masks .entry)))))
         × (now (work .exit) ≡ replicate (length (now (work .entry))) 0) ⌝ }
 {
-    let mut highs = [0u64; 16641];
-    let mut lows = [0u64; 16641];
+    let mut highs = [0u64; 8385];
+    let mut lows = [0u64; 8385];
     table::clear(work);
-    suffixes(m, n, cells, masks, reaches, work, &mut highs, &mut lows);
+    suffixes(m, n, masks, reaches, work, &mut highs, &mut lows);
     let r = table::get(work, &highs, &lows, 0);
     decode(r, m, keep);
     table::clear(work); // it is handed back all zero
-    r.count as usize
+    m - r.count as usize
 }

@@ -1,6 +1,6 @@
--- S and F over the cell matrix are S and F over the table's bytes.
+-- S and F over the masks are S and F over the table's bytes.
 -- Assumes nothing.
-use mathlib.Core.Path.{_≡_, sym, ap, ap₂, subst, _∙_}
+use mathlib.Core.Path.{_≡_, refl, sym, ap, ap₂, _∙_}
 use mathlib.Core.Bool.{Bool, true}
 use mathlib.Core.List.{List}
 use Prim.Native.Nat.{ℕ}
@@ -9,23 +9,20 @@ use Rattle.below.specs.Below.{if_then_else_}
 use Rattle.fields.specs.Table.{fragments}
 use Rattle.records.specs.Outcome.{Verdict}
 use Rattle.below.proofs.BelowLaws.{is-true}
-use Rattle.records.proofs.AcceptedLaws.{sized-count, sized-n}
+use Rattle.records.proofs.AcceptedLaws.{sized-count}
 use Rattle.conflicts.specs.Choice.{keepAll, zeros}
-use Rattle.conflicts.specs.Grid.{gridOf}
-use Rattle.matrix.specs.Algorithm.Matrix.{matrixGrid}
+use Rattle.conflicts.specs.Grid.{Grid, gridOf}
 use Rattle.conflicts.specs.Sides.{errorFree, firstSides}
 use Rattle.conflicts.specs.Removal.{snpKeepMarks, fragmentKeepMarks}
 use Rattle.conflicts.specs.Answer.{answer, snpAnswer, fragmentAnswer}
 use Rattle.conflicts.specs.Services.{snpRemovalLeaves, fragmentRemovalLeaves}
 use Rattle.conflicts.proofs.Minimality.{snp-free, fragments-free}
 use Rattle.conflicts.proofs.Outcomes.{snp-accepted, fragment-accepted}
-use Rattle.matrix.specs.Algorithm.Cells.{tableCells}
+use Rattle.masks.specs.Algorithm.Masks.{Masks, maskWords, wordsGrid}
+use Rattle.masks.proofs.TableLaws.{table-masks, words-snp, words-fragment}
 use Rattle.phasing.specs.Algorithm.Answer.{AnswerFound}
-use Rattle.matrix.proofs.TableLaws.{cells-snpKeepMarks, cells-fragmentKeepMarks}
-use Rattle.phasing.proofs.TableLaws.{cells-found}
-use Rattle.records.specs.Algorithm.Kept.{SizesKept}
+use Rattle.records.specs.Algorithm.Kept.{SizesKept, RecordsKept}
 use Rattle.removals.specs.Meanings.{SnpSays, FragmentSays}
-use Rattle.matrix.proofs.KeptLaws.{few, grid-is}
 use Rattle.removals.proofs.RemovalLaws.{Leaves, removalVerdict}
 
 module _ (n : ℕ) (table : List ℕ) where
@@ -50,24 +47,20 @@ module _ (n : ℕ) (table : List ℕ) where
   unfolding fragmentAnswer gridOf
   bytes-fragments e f found = bytes-phased _ _ e f (fragments-free (gridOf n table)) found
 
-module _ {n m : ℕ} {table cells : List ℕ} (sized : SizesKept n m table) (same : cells ≡ tableCells n table) where
-  pub table-marks : snpKeepMarks (matrixGrid m n cells) ≡ snpKeepMarks (gridOf n table)
-  table-marks = ap snpKeepMarks (grid-is sized same) ∙ cells-snpKeepMarks n table (sized-n sized) (few sized same)
+-- over the words of a table that keeps its rules
+module _ {n m : ℕ} {table words : List ℕ} (sized : SizesKept n m table) (kept : RecordsKept n table) (are : words ≡ maskWords (gridOf n table)) where
+  -- what phasing the words leaves, said of the table
+  found-of : {keep frags before after : List ℕ} {ok : Bool} → ((g : Grid) → Masks g words → m ≡ g .m → n ≡ g .n → AnswerFound g keep frags ok before after) → AnswerFound (gridOf n table) keep frags ok before after
+  unfolding gridOf
+  found-of found = found (gridOf n table) (table-masks sized kept are) (sym (sized-count sized)) refl
 
-  pub table-answer : {keep frags before after : List ℕ} {ok : Bool} → keep ≡ snpKeepMarks (matrixGrid m n cells) → frags ≡ keepAll m
-      → AnswerFound (matrixGrid m n cells) keep frags ok before after → after ≡ snpAnswer (gridOf n table)
-  table-answer {keep} {frags} {before} {after} {ok} e f found =
-      bytes-answer n table (e ∙ table-marks) (f ∙ ap keepAll (sym (sized-count sized)))
-      (cells-found n table (sized-n sized) (few sized same) (subst (λ g. AnswerFound g keep frags ok before after) (grid-is sized same) found))
+  pub table-answer : {keep frags before after : List ℕ} {ok : Bool} → keep ≡ snpKeepMarks (wordsGrid m n words) → frags ≡ keepAll m
+      → ((g : Grid) → Masks g words → m ≡ g .m → n ≡ g .n → AnswerFound g keep frags ok before after) → after ≡ snpAnswer (gridOf n table)
+  table-answer e f found = bytes-answer n table (e ∙ words-snp sized kept are) (f ∙ ap keepAll (sym (sized-count sized))) (found-of found)
 
-  pub table-fragments : fragmentKeepMarks (matrixGrid m n cells) ≡ fragmentKeepMarks (gridOf n table)
-  table-fragments = ap fragmentKeepMarks (grid-is sized same) ∙ cells-fragmentKeepMarks n table (sized-n sized) (few sized same)
-
-  pub table-fragment-answer : {keep frags before after : List ℕ} {ok : Bool} → keep ≡ keepAll n → frags ≡ fragmentKeepMarks (matrixGrid m n cells)
-      → AnswerFound (matrixGrid m n cells) keep frags ok before after → after ≡ fragmentAnswer (gridOf n table)
-  table-fragment-answer {keep} {frags} {before} {after} {ok} e f found =
-      bytes-fragments n table e (f ∙ table-fragments)
-      (cells-found n table (sized-n sized) (few sized same) (subst (λ g. AnswerFound g keep frags ok before after) (grid-is sized same) found))
+  pub table-fragment-answer : {keep frags before after : List ℕ} {ok : Bool} → keep ≡ keepAll n → frags ≡ fragmentKeepMarks (wordsGrid m n words)
+      → ((g : Grid) → Masks g words → m ≡ g .m → n ≡ g .n → AnswerFound g keep frags ok before after) → after ≡ fragmentAnswer (gridOf n table)
+  table-fragment-answer e f found = bytes-fragments n table e (f ∙ words-fragment sized kept are) (found-of found)
 
 -- what a removal leaves, for S's count and answer, is what S leaves, and it means what demand 3 says
 module _ (n : ℕ) (table lent work : List ℕ) {v : Verdict} {w a : List ℕ} where

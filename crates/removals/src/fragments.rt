@@ -8,15 +8,12 @@ ghost use Rattle.conflicts.specs.Grid.{gridOf};
 ghost use Rattle.conflicts.specs.Removal.{fragmentKeepMarks};
 ghost use Rattle.conflicts.specs.Answer.{answerSize, fragmentAnswer};
 ghost use Rattle.conflicts.specs.Services.{fragmentRemovalLeaves};
-ghost use Rattle.matrix.specs.Algorithm.Cells.{tableCells};
 ghost use Rattle.records.specs.Algorithm.Kept.{SizesKept, GaplessKept};
 ghost use Rattle.removals.specs.Meanings.{FragmentSays};
 use fragment_removal::fragment_keep_marks;
 use masks::fill_masks;
 use masks::mask_room;
 use matrix::all_kept;
-use matrix::blank_cells;
-use matrix::fill_matrix;
 use phasing::phase;
 use records::Outcome;
 use stages::removal_fault;
@@ -26,14 +23,12 @@ fn phase_fragments(
     n: usize,
     m: usize,
     table: &[u8],
-    cells: &[u8],
     work: &mut [u16],
     keep: &mut [u8],
     answer: &mut [u8],
 ) -> usize
     requires { ⌜ SizesKept n m (now table) ⌝ }
     requires { ⌜ GaplessKept n (now table) ⌝ }
-    requires { ⌜ now cells ≡ tableCells n (now table) ⌝ }
     requires { ⌜ 32768 ≤ length (now work) ⌝ }
     requires { ⌜ length (now keep) ≡ m ⌝ }
     requires { ⌜ length (now answer) ≡ answerSize m n ⌝ }
@@ -42,10 +37,10 @@ fn phase_fragments(
     ensures answer { λ _. ⌜ now (answer .exit) ≡ fragmentAnswer (gridOf n (now (table .entry))) ⌝ }
 {
     let mut masks = mask_room();
-    fill_masks(m, n, cells, &mut masks);
-    let count = fragment_keep_marks(m, n, cells, &masks, work, keep);
+    fill_masks(table, &mut masks);
+    let count = fragment_keep_marks(m, n, &masks, work, keep);
     let cols = all_kept();
-    phase(m, n, cells, &masks, &cols[0..n], keep, answer);
+    phase(m, n, &masks, &cols[0..n], keep, answer);
     count
 }
 
@@ -59,10 +54,8 @@ fn remove_fragments(n: usize, m: usize, table: &[u8], work: &mut [u16], answer: 
     ensures work { λ _. ⌜ now (work .exit) ≡ replicate (length (now (work .entry))) 0 ⌝ }
     ensures answer { λ _. ⌜ now (answer .exit) ≡ fragmentAnswer (gridOf n (now (table .entry))) ⌝ }
 {
-    let mut cells = blank_cells();
     let mut keep = all_kept();
-    fill_matrix(n, table, &mut cells);
-    phase_fragments(n, m, table, &cells, work, &mut keep[0..m], answer)
+    phase_fragments(n, m, table, work, &mut keep[0..m], answer)
 }
 
 // Accepted with the number of removed fragments, the answer's 3n + 2m bytes, and the work all zero. A refusal writes nothing.

@@ -7,14 +7,11 @@ ghost use Rattle.conflicts.specs.Grid.{gridOf};
 ghost use Rattle.conflicts.specs.Removal.{snpKeepMarks};
 ghost use Rattle.conflicts.specs.Answer.{answerSize, snpAnswer};
 ghost use Rattle.conflicts.specs.Services.{snpRemovalLeaves};
-ghost use Rattle.matrix.specs.Algorithm.Cells.{tableCells};
 ghost use Rattle.records.specs.Algorithm.Kept.{SizesKept, GaplessKept};
 ghost use Rattle.removals.specs.Meanings.{SnpSays};
 use masks::fill_masks;
 use masks::mask_room;
 use matrix::all_kept;
-use matrix::blank_cells;
-use matrix::fill_matrix;
 use phasing::phase;
 use ranks::table;
 use records::Outcome;
@@ -26,14 +23,12 @@ fn phase_kept(
     n: usize,
     m: usize,
     table: &[u8],
-    cells: &[u8],
     keep: &mut [u8],
     frags: &[u8],
     answer: &mut [u8],
 ) -> usize
     requires { ⌜ SizesKept n m (now table) ⌝ }
     requires { ⌜ GaplessKept n (now table) ⌝ }
-    requires { ⌜ now cells ≡ tableCells n (now table) ⌝ }
     requires { ⌜ now frags ≡ keepAll m ⌝ }
     requires { ⌜ length (now keep) ≡ n ⌝ }
     requires { ⌜ length (now answer) ≡ answerSize m n ⌝ }
@@ -41,9 +36,9 @@ fn phase_kept(
     ensures answer { λ _. ⌜ now (answer .exit) ≡ snpAnswer (gridOf n (now (table .entry))) ⌝ }
 {
     let mut masks = mask_room();
-    let count = snp_keep_marks(m, n, cells, keep);
-    fill_masks(m, n, cells, &mut masks);
-    phase(m, n, cells, &masks, keep, frags, answer);
+    fill_masks(table, &mut masks);
+    let count = snp_keep_marks(m, n, &masks, keep);
+    phase(m, n, &masks, keep, frags, answer);
     count
 }
 
@@ -55,14 +50,12 @@ fn remove_snps(n: usize, m: usize, table: &[u8], answer: &mut [u8]) -> usize
     ensures count { λ r. ⌜ r ≡ zeros (snpKeepMarks (gridOf n (now (table .entry)))) ⌝ }
     ensures answer { λ _. ⌜ now (answer .exit) ≡ snpAnswer (gridOf n (now (table .entry))) ⌝ }
 {
-    let mut cells = blank_cells();
     let mut keep = all_kept();
     let frags = all_kept();
-    fill_matrix(n, table, &mut cells);
-    phase_kept(n, m, table, &cells, &mut keep[0..n], &frags[0..m], answer)
+    phase_kept(n, m, table, &mut keep[0..n], &frags[0..m], answer)
 }
 
-// Accepted with the number of removed columns, the answer's 3n + 2m bytes, and the work all zero. A refusal writes nothing. Takes 44 KB of stack.
+// Accepted with the number of removed columns, the answer's 3n + 2m bytes, and the work all zero. A refusal writes nothing. Takes 12 KB of stack.
 pub fn least_snp_removal(n: usize, table: &[u8], work: &mut [u16], answer: &mut [u8]) -> Outcome
     ensures outcome { λ r. ⌜ outcomeOf r ≡ snpRemovalLeaves n (now (table .entry)) (now (answer .entry)) (now (work .entry)) .outcome ⌝ }
     ensures work { λ _. ⌜ now (work .exit) ≡ snpRemovalLeaves n (now (table .entry)) (now (answer .entry)) (now (work .entry)) .work ⌝ }

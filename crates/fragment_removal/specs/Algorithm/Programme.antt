@@ -1,6 +1,6 @@
 -- The least weight of the fragments removed, by recursion on how many of the last fragments are weighed (paper 001, section 5.2).
 -- Assumes nothing.
-use Prim.Native.Nat.{ℕ, zero, suc, _+_, _-_, min}
+use Prim.Native.Nat.{ℕ, zero, suc, _+_, _-_, min, max}
 use mathlib.Core.Bool.{Bool}
 use Rattle.below.specs.Below.{if_then_else_, _<?_}
 use Rattle.conflicts.specs.Grid.{Grid}
@@ -17,13 +17,27 @@ chooseFragment first second out one two rest =
     let w = if second then min (out + rest) two else out + rest in
     if first then min w one else w
 
--- what the fragment at position i makes of the weights of those after it, at states h and l of sides 1 and 2
-abbrev pub withFragment : (ℕ → Bool) → (ℕ → ℕ) → ℕ → ℕ → (ℕ → ℕ → ℕ) → ℕ → ℕ → ℕ
-withFragment may reaches out i v h l = chooseFragment (may h) (may l) out (v (furthest reaches h i) l) (v h (furthest reaches l i)) (v h l)
-
--- the least weight of the last k fragments, at states h and l
+-- the least weight of the last k fragments that are removed, at states h and l of sides 1 and 2
 unfoldable pub leastFragmentWeight : Grid → ℕ → ℕ → ℕ → ℕ
 leastFragmentWeight g zero h l = 0
 leastFragmentWeight g (suc k) h l =
     let i = g .m - suc k in
-    withFragment (λ s. mayJoin g s i) (stateReach g) (removal i) i (leastFragmentWeight g k) h l
+    let v = leastFragmentWeight g k in
+    chooseFragment (mayJoin g h i) (mayJoin g l i) (removal i) (v (furthest (stateReach g) h i) l) (v h (furthest (stateReach g) l i)) (v h l)
+
+-- kept on side 1 if it may join it, on side 2, or removed: whichever weighs most
+abbrev pub keepFragment : Bool → Bool → ℕ → ℕ → ℕ → ℕ
+keepFragment first second one two rest =
+    let w = if second then max rest two else rest in
+    if first then max w one else w
+
+-- what the fragment at position i, which weighs `own`, makes of the weights of those after it that are kept, at states h and l
+abbrev pub withFragment : (ℕ → Bool) → (ℕ → ℕ) → ℕ → ℕ → (ℕ → ℕ → ℕ) → ℕ → ℕ → ℕ
+withFragment may reaches own i v h l = keepFragment (may h) (may l) (own + v (furthest reaches h i) l) (own + v h (furthest reaches l i)) (v h l)
+
+-- the greatest weight of the last k fragments that are kept, at states h and l: what is removed and what is kept weigh all together
+unfoldable pub mostKept : Grid → ℕ → ℕ → ℕ → ℕ
+mostKept g zero h l = 0
+mostKept g (suc k) h l =
+    let i = g .m - suc k in
+    withFragment (λ s. mayJoin g s i) (stateReach g) (removal i) i (mostKept g k) h l

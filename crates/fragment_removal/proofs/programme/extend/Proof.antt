@@ -4,7 +4,7 @@ use mathlib.Core.Path.{refl, _∙_}
 use Prim.Native.Nat.{_-_}
 use native.Mathlib.Omega.{arith}
 use borrow.Author.Needs.{needs}
-use Rattle.matrix.specs.Algorithm.Matrix.{matrixGrid}
+use Rattle.masks.specs.Algorithm.Masks.{wordsGrid}
 use Rattle.ranks.specs.Algorithm.Reading.{value}
 use Rattle.below.specs.Below.{nth}
 use Rattle.fragment_states.specs.Algorithm.Fragments.{wordsJoin}
@@ -15,16 +15,16 @@ use Rattle.fragment_removal.proofs.programme.extend.Statement.{statemen
 use Rattle.fragment_removal.proofs.programme.extend.Tie as tie
 
 fill-agreements-requires : tie.Need-fill-agreements-requires
-fill-agreements-requires c κs = let p = c .before .before .before .before .before .before .before .pre .0 in let h = p .matrix .rows in (p .words-size, omega arith, search needs)
+fill-agreements-requires c κs = let p = c .before .before .before .before .before .before .pre .0 in let h = p .few in (p .words-size, omega arith, search needs)
 
 single-requires : tie.Need-single-requires
-single-requires c κs = let h = c .before .before .before .before .before .before .before .before .before .pre .0 .matrix .rows in omega arith
+single-requires c κs = let h = c .before .before .before .before .before .before .before .before .pre .0 .few in omega arith
 
 layer-requires : tie.Need-layer-requires
-unfolding matrixGrid
+unfolding wordsGrid
 layer-requires c κs =
-    let out = c .before .before .before .before .single in
-    let s = c .before .before .before .before .before .before .before .before .before .before .before .before .before .before in
+    let own = c .before .before .before .before .single in
+    let s = c .before .before .before .before .before .before .before .before .before .before .before .before .before in
     let a = s .args in
     let p = s .pre .0 in
     let i = a .m - 1 - a .k in
@@ -32,24 +32,24 @@ layer-requires c κs =
       s .pre .2,
       search needs,
       p .reaches-size,
-      let h = p .matrix .rows in omega arith,
-      holds-room (matrixGrid (a .m) (a .n) (a .cells .now)) (a .k) i v (s .pre .1) refl (s .pre .3) (p .matrix .rows) (out .result) (out .ok .1 .1 .1 .0 .1) (out .ok .1 .1 .1 .1 .0 .1) (removal-of i (out .ensures)),
+      let h = p .few in omega arith,
+      holds-room (wordsGrid (a .m) (a .n) (a .masks .now)) (a .k) i v (s .pre .1) refl (s .pre .3) (p .few) (own .result) (own .ok .1 .1 .1 .0 .1) (own .ok .1 .1 .1 .1 .0 .1) (removal-of i (own .ensures)),
     )
 
 returns : tie.Need-returns
-unfolding matrixGrid
+unfolding wordsGrid
 returns c =
     let layer = c .before .before .before .before .before .before .layer in
-    let out = c .before .before .before .before .before .before .before .before .before .before .before .single in
+    let own = c .before .before .before .before .before .before .before .before .before .before .before .single in
     let fill-agreements = c .before .before .before .before .before .before .before .before .before .before .before .before .before .fill-agreements in
-    let s = c .before .before .before .before .before .before .before .before .before .before .before .before .before .before .before .before .before .before .before .before .before in
+    let s = c .before .before .before .before .before .before .before .before .before .before .before .before .before .before .before .before .before .before .before .before in
     let a = s .args in
     let p = s .pre .0 in
-    let g = matrixGrid (a .m) (a .n) (a .cells .now) in
+    let g = wordsGrid (a .m) (a .n) (a .masks .now) in
     let i = a .m - 1 - a .k in
-    holds-more g (a .k) i (pairs (a .counts .now) (a .highs .now) (a .lows .now)) (s .pre .1) refl (s .pre .3) _ (nth (a .reaches .now)) (value (out .result)) _
+    holds-more g (a .k) i (pairs (a .counts .now) (a .highs .now) (a .lows .now)) (s .pre .1) refl (s .pre .3) _ (nth (a .reaches .now)) (value (own .result)) _
     (λ q h. begins-marks (λ q. wordsJoin (a .masks .now) q i) _ _ (fill-agreements .ensures) q h ∙ words-join g (a .masks .now) q i (p .masks) (omega arith) (omega (arith, s .pre .1)))
-    (p .reaching .begins) (removal-of i (out .ensures)) (layer .ensures)
+    (p .reaching .begins) (removal-of i (own .ensures)) (layer .ensures)
 
 pub extend-spec : {M : Type 1} → statement M
 extend-spec =

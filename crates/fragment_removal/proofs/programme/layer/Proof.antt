@@ -11,20 +11,20 @@ use Rattle.ranks.specs.Algorithm.Tables.{at}
 use Rattle.below.specs.Below.{nth}
 use Rattle.fragment_removal.specs.Algorithm.Programme.{withFragment}
 use Rattle.fragment_removal.specs.Algorithm.Pairs.{pairs, Rows}
-use Rattle.fragment_removal.proofs.PairLaws.{rows-none, rows-more, rows-room}
+use Rattle.fragment_removal.proofs.PairLaws.{rows-none, rows-more, rows-room, rows-made}
 use Rattle.fragment_removal.proofs.programme.layer.Statement.{statement}
 use Rattle.fragment_removal.proofs.programme.layer.Tie as tie
 
 abbrev Inv-loop : tie.InvT-loop
-Inv-loop counts₀ highs₀ lows₀ agrees reaches out i states h₀ counts highs lows h =
+Inv-loop counts₀ highs₀ lows₀ agrees reaches own i states h₀ counts highs lows h =
     (h ≤ states) × (length counts ≡ length counts₀) × (length highs ≡ length highs₀) × (length lows ≡ length lows₀)
-    × Rows (withFragment (marked agrees) (nth reaches) (value out) i (pairs counts₀ highs₀ lows₀)) (pairs counts₀ highs₀ lows₀) (pairs counts highs lows) (i + 1) h
+    × Rows (withFragment (marked agrees) (nth reaches) (value own) i (pairs counts₀ highs₀ lows₀)) (at counts₀ highs₀ lows₀) (at counts highs lows) h
 
 abbrev μ-loop : tie.MeasureT-loop
-μ-loop counts₀ highs₀ lows₀ agrees reaches out i states h₀ counts highs lows h = states - h
+μ-loop counts₀ highs₀ lows₀ agrees reaches own i states h₀ counts highs lows h = states - h
 
 loop-holds : tie.Need-loop-holds Inv-loop μ-loop
-loop-holds c = (search needs, refl, refl, refl, rows-none _ _ _)
+loop-holds c = (search needs, refl, refl, refl, rows-none _ _)
 
 row-requires : tie.Need-row-requires Inv-loop μ-loop
 row-requires c κs =
@@ -33,7 +33,7 @@ row-requires c κs =
     let a = s .args in
     let p = s .pre in
     let hi : l .h ≤ a .i = omega arith in
-    (record { counts-size = let z = p .0 .counts-size in search needs; highs-size = let z = p .0 .highs-size in search needs; lows-size = let z = p .0 .lows-size in search needs }, p .1, p .2, hi, p .3, rows-room (marked (a .agrees .now)) (nth (a .reaches .now)) (value (a .out)) (a .i) (at (a .counts .now) (a .highs .now) (a .lows .now)) (at (l .counts) (l .highs) (l .lows)) (l .h) hi (p .3) (l .inv .4) (a .out) (p .4))
+    (record { counts-size = let z = p .0 .counts-size in search needs; highs-size = let z = p .0 .highs-size in search needs; lows-size = let z = p .0 .lows-size in search needs }, p .1, p .2, hi, p .3, rows-room (marked (a .agrees .now)) (nth (a .reaches .now)) (value (a .own)) (a .i) (at (a .counts .now) (a .highs .now) (a .lows .now)) (at (l .counts) (l .highs) (l .lows)) (l .h) (l .inv .4) (a .own) (p .4))
 
 loop-again : tie.Need-loop-again Inv-loop μ-loop
 loop-again c =
@@ -45,11 +45,14 @@ loop-again c =
       search needs,
       search needs,
       search needs,
-      rows-more (marked (a .agrees .now)) (nth (a .reaches .now)) (value (a .out)) (a .i) (at (a .counts .now) (a .highs .now) (a .lows .now)) (at (l .counts) (l .highs) (l .lows)) (l .h) (omega arith) (s .pre .3) (l .inv .4) (row .ensures),
+      rows-more (marked (a .agrees .now)) (nth (a .reaches .now)) (value (a .own)) (a .i) (at (a .counts .now) (a .highs .now) (a .lows .now)) (at (l .counts) (l .highs) (l .lows)) (l .h) (l .inv .4) (omega arith) (row .ensures),
     )
 
 returns : tie.Need-returns Inv-loop μ-loop
-returns c = let l = c .before .loop in record { made = λ h q lh lq. l .inv .4 .done h q (omega arith) lq }
+returns c =
+    let l = c .before .loop in
+    let a = c .before .before .before .before .before .before .before .args in
+    rows-made (marked (a .agrees .now)) (nth (a .reaches .now)) (value (a .own)) (a .i) (at (a .counts .now) (a .highs .now) (a .lows .now)) (at (l .counts) (l .highs) (l .lows)) (l .h) (l .inv .4) (a .i + 1) (omega arith)
 
 pub layer-spec : {M : Type 1} → statement M
 layer-spec =

@@ -1,9 +1,16 @@
 -- `programme::least` meets its contract. A call's `.ok` says that the fields of the Rank it hands back fit; `.1 .1 .1 .0 .1` is its higher word, `.1 .1 .1 .1 .0 .1` its lower.
 -- Assumes nothing.
-use mathlib.Core.Path.{_∙_}
-use Prim.Native.Nat.{zero-le}
+use mathlib.Core.Path.{_≡_, _∙_}
+use Prim.Native.Nat.{_+_, zero-le}
+use native.Mathlib.Omega.{arith}
 use borrow.Author.Needs.{needs}
-use Rattle.matrix.specs.Algorithm.Matrix.{matrixGrid}
+use Rattle.below.specs.Below.{tab}
+use Rattle.conflicts.specs.Choice.{zeros}
+use Rattle.conflicts.specs.Removal.{fragmentKeepMarks}
+use Rattle.masks.specs.Algorithm.Masks.{wordsGrid}
+use Rattle.ranks.specs.Algorithm.Weight.{digitAt}
+use Rattle.ranks.specs.Algorithm.Reading.{code}
+use Rattle.fragment_removal.specs.Algorithm.Pairs.{rowStart, corner}
 use Rattle.fragment_removal.proofs.PairLaws.{zeros-pairs, cleared-as, holds-none}
 use Rattle.fragment_removal.proofs.FragmentLaws.{rank-marks}
 use Rattle.fragment_removal.proofs.programme.least.Statement.{statement}
@@ -12,7 +19,7 @@ use Rattle.fragment_removal.proofs.programme.least.Tie as tie
 suffixes-requires : tie.Need-suffixes-requires
 suffixes-requires c κs =
     let clear = c .before .before .before .before .before .clear in
-    let p = c .before .before .before .before .before .before .before .before .before .before .before .before .pre in (
+    let p = c .before .before .before .before .before .before .before .before .before .before .before .pre in (
       p .0,
       record { counts-size = let z = p .2 in search needs; highs-size = search needs; lows-size = search needs },
       holds-none _ _ (zeros-pairs _ _ (clear .ensures)),
@@ -20,27 +27,37 @@ suffixes-requires c κs =
 
 get-requires : tie.Need-get-requires
 get-requires c κs =
-    let z = c .before .before .before .before .before .before .before .before .before .before .before .before .before .before .before .before .before .before .before .before .pre .2 in search needs
+    let z = c .before .before .before .before .before .before .before .before .before .before .before .before .before .before .before .before .before .before .before .pre .2 in search needs
 
 decode-requires : tie.Need-decode-requires
 decode-requires c κs =
-    let p = c .before .before .before .before .before .before .before .before .before .before .before .before .before .before .before .before .before .before .before .before .before .before .pre in (p .0 .matrix .rows, p .3)
+    let p = c .before .before .before .before .before .before .before .before .before .before .before .before .before .before .before .before .before .before .before .before .before .pre in (p .0 .few, p .3)
 
 same-length : tie.Need-same-length
 same-length c = search needs
 
-returns : tie.Need-returns
-unfolding matrixGrid
-returns c =
-    let decode = c .before .before .before .before .before .before .before .decode in
-    let get = c .before .before .before .before .before .before .before .before .before .get in
-    let suffixes = c .before .before .before .before .before .before .before .before .before .before .before .before .before .before .before .before .before .suffixes in
-    let s = c .before .before .before .before .before .before .before .before .before .before .before .before .before .before .before .before .before .before .before .before .before .before .before .before .before .before .before .before .before .before in
+-- what the weight of the first states says
+marks : (c : tie.After-get) →
+    let a = c .before .before .before .before .before .before .before .before .before .before .before .before .before .before .before .before .before .before .before .before .args in
+    let g = wordsGrid (a .m) (a .n) (a .masks .now) in
+    let r = c .get .result in
+    (tab (a .m) (λ p. digitAt (code r) p) ≡ fragmentKeepMarks g) × (r .count + zeros (fragmentKeepMarks g) ≡ a .m)
+unfolding wordsGrid rowStart corner
+marks c =
+    let r = c .get in
+    let s = c .before .before .before .before .before .before .before .before .before .before .before .before .before .before .before .before .before .before .before .before in
     let a = s .args in
-    let r = get in
-    let m = rank-marks (matrixGrid (a .m) (a .n) (a .cells .now)) (s .pre .1) (s .pre .0 .rising) (s .pre .0 .matrix .rows) (r .result) (r .ok .1 .1 .1 .0 .1) (r .ok .1 .1 .1 .1 .0 .1)
-    (r .ensures ∙ suffixes .ensures .holds 0 0 zero-le zero-le) in
-    (decode .ensures ∙ m .0, m .1, cleared-as (a .work .now) (c .before .before .before .clear2 .ensures) (same-length c))
+    rank-marks (wordsGrid (a .m) (a .n) (a .masks .now)) (s .pre .1) (s .pre .0 .rising) (s .pre .0 .few) (r .result) (r .ok .1 .1 .1 .0 .1) (r .ok .1 .1 .1 .1 .0 .1)
+    (r .ensures ∙ c .before .before .before .before .before .before .before .before .suffixes .ensures .holds 0 0 zero-le zero-le)
+
+sub-result : tie.Need-sub-result
+sub-result c = let e = marks (c .before .before .before .before .before .before .before .before .before) .1 in search needs
+
+returns : tie.Need-returns
+returns c =
+    let a = c .before .before .before .before .before .before .before .before .before .before .before .before .before .before .before .before .before .before .before .before .before .before .before .before .before .before .before .before .before .args in
+    let m = marks (c .before .before .before .before .before .before .before .before .before) in
+    (c .before .before .before .before .before .before .before .decode .ensures ∙ m .0, let e = m .1 in omega arith, cleared-as (a .work .now) (c .before .before .before .clear2 .ensures) (same-length c))
 
 pub least-spec : {M : Type 1} → statement M
 least-spec =
@@ -56,6 +73,7 @@ least-spec =
     decode-requires
     (λ c κs. search needs)
     (λ c. search needs)
+    sub-result
     (λ c. search needs)
     (λ c. search needs)
     returns)

@@ -1,95 +1,80 @@
--- `programme::row` meets its contract. The loop's invariant: the states below l have the fragment before them, and the others not yet.
+-- `programme::row` meets its contract. A call's `.ok` says that the fields of the Rank it hands back fit; `.1 .1 .1 .0 .1` is its higher word, `.1 .1 .1 .1 .0 .1` its lower.
 -- Assumes nothing.
-use mathlib.Core.Path.{_≡_, refl, sym, subst}
-use Prim.Native.Nat.{ℕ, _+_, _*_, _-_, _≤_}
+use mathlib.Core.Path.{_≡_, sym, ap, _∙_}
+use Prim.Native.Nat.{ℕ, _+_, _<_}
+use native.Mathlib.Nat.{le-refl}
 use native.Mathlib.Omega.{arith}
-use lib.ListN.{length}
 use borrow.Author.Needs.{needs}
-use Rattle.conflicts.specs.Choice.{marked}
 use Rattle.ranks.specs.Algorithm.Reading.{value}
-use Rattle.ranks.specs.Algorithm.Tables.{at, Sweep}
-use Rattle.ranks.proofs.TableLaws.{put-as, sweep-more}
-use Rattle.below.specs.Below.{nth}
-use Rattle.fragment_removal.specs.Algorithm.Programme.{withFragment}
-use Rattle.fragment_removal.specs.Algorithm.Pairs.{pairs, flat}
-use Rattle.fragment_removal.proofs.PairLaws.{row-weight, row-fits, furthest-range, sweep-none-at, sweep-at}
+use Rattle.ranks.specs.Algorithm.Tables.{at}
+use Rattle.fragment_removal.specs.Algorithm.Pairs.{pairs}
+use Rattle.fragment_removal.proofs.CornerLaws.{row-inside, corner-last}
+use Rattle.fragment_removal.proofs.PairLaws.{sum-fits}
 use Rattle.fragment_removal.proofs.programme.row.Statement.{statement}
 use Rattle.fragment_removal.proofs.programme.row.Tie as tie
 
-abbrev Inv-loop : tie.InvT-loop
-Inv-loop counts₀ highs₀ lows₀ agrees reaches out i h one may start states l₀ counts highs lows l =
-    (l ≤ states) × (length counts ≡ length counts₀) × (length highs ≡ length highs₀) × (length lows ≡ length lows₀)
-    × Sweep (flat (withFragment (marked agrees) (nth reaches) (value out) i (pairs counts₀ highs₀ lows₀))) (at counts₀ highs₀ lows₀) (at counts highs lows) (h * 129) (h * 129 + l)
+-- the last row is in the table
+inside : (c : tie.After-row-start) → c .row-start .result + (c .before .before .before .before .before .before .args .i + 1) < 8385
+inside c = let s = c .before .before .before .before .before .before in row-inside (s .args .i + 1) (s .args .i + 1) (c .row-start .ensures) (le-refl (s .args .i + 1)) (omega arith)
 
-abbrev μ-loop : tie.MeasureT-loop
-μ-loop counts₀ highs₀ lows₀ agrees reaches out i h one may start states l₀ counts highs lows l = states - l
+add-get : tie.Need-add-get
+add-get c = let k = inside (c .before .before .before) in search needs
 
-loop-holds : tie.Need-loop-holds Inv-loop μ-loop
-loop-holds c = (search needs, refl, refl, refl, sweep-none-at _ _ _)
+get-requires : tie.Need-get-requires
+get-requires c κs =
+    let k = inside (c .before .before .before) in
+    let p = c .before .before .before .before .before .before .before .before .before .pre in
+    record { in-counts = let z = p .0 .counts-size in search needs; in-highs = let z = p .0 .highs-size in search needs; in-lows = let z = p .0 .lows-size in search needs }
 
-weight-at-requires : tie.Need-weight-at-requires Inv-loop μ-loop
-weight-at-requires c κs =
-    let l = c .before .before .before .before .loop in
-    let s = c .before .before .before .before .before .before .before .before .before .before .before .before in
+-- what is read there
+last : (c : tie.After-get) → let a = c .before .before .before .before .before .before .before .before .before .before .args in value (c .get .result) ≡ pairs (a .counts .now) (a .highs .now) (a .lows .now) (a .h) (a .i + 1)
+last c =
+    let s = c .before .before .before .before .before .before .before .before .before .before in
     let a = s .args in
-    let p = s .pre in
-    let li : l .l ≤ a .i = omega arith in
-    let one = c .before .before .before .before .before .before .furthest-of .ensures in (
-      record { counts-size = let z = p .0 .counts-size in search needs; highs-size = let z = p .0 .highs-size in search needs; lows-size = let z = p .0 .lows-size in search needs },
-      p .1,
-      p .2,
-      p .3,
-      li,
-      p .4,
-      subst (λ (x : ℕ). x ≤ a .i + 1) (sym one) (furthest-range (nth (a .reaches .now)) (a .h) (a .i) (p .3) .1),
-      row-fits (a .h) (l .l) (l .inv .4) (nth (a .reaches .now)) (a .out) (a .i) _ (p .3) li one (p .5),
-    )
+    c .get .ensures ∙ ap (at (a .counts .now) (a .highs .now) (a .lows .now)) (corner-last (a .h) (a .i) (c .before .before .before .before .row-start .ensures) (s .pre .3))
 
-put-requires : tie.Need-put-requires Inv-loop μ-loop
-put-requires c κs =
-    let z = c .before .before .before .before .before .before .before .before .before .before .before .before .before .before .before .before .pre .0 in
-    (record { in-counts = let k = z .counts-size in search needs; in-highs = let k = z .highs-size in search needs; in-lows = let k = z .lows-size in search needs }, c .before .before .before .weight-at .ensures .1)
-
-loop-again : tie.Need-loop-again Inv-loop μ-loop
-loop-again c =
-    let l = c .before .before .before .before .before .before .before .before .before .before .before .before .before .before .before .loop in
-    let s = c .before .before .before .before .before .before .before .before .before .before .before .before .before .before .before .before .before .before .before .before .before .before .before in
+plus-requires : tie.Need-plus-requires
+plus-requires c κs =
+    let get = c .get in
+    let s = c .before .before .before .before .before .before .before .before .before .before in
     let a = s .args in
-    let li : l .l ≤ a .i = omega arith in (
-      search needs,
-      search needs,
-      search needs,
-      search needs,
-      sweep-at (sweep-more (let e : a .h * 129 ≤ a .h * 129 + l .l = omega arith in e) (l .inv .4)
-          (put-as (c .before .before .before .before .before .before .put .ensures .1)
-          (row-weight (a .h) (l .l) (l .inv .4) (marked (a .agrees .now)) (nth (a .reaches .now)) (value (a .out)) (a .i) _ _ (s .pre .3) li (s .pre .4) (c .before .before .before .before .before .before .before .before .before .before .before .before .before .before .before .before .before .furthest-of .ensures) (c .before .before .before .before .before .before .before .before .before .before .before .before .before .before .before .before .is-marked .ensures) (c .before .before .before .before .before .before .before .before .before .before .weight-at .ensures .0))))
-          (let e : a .h * 129 + l .l + 1 ≡ a .h * 129 + (l .l + 1) = omega arith in e),
-    )
+    let f = s .pre .5 in
+    sum-fits (a .own) (get .result) (f .others) (f .few) (f .fits) (get .ok .1 .1 .1 .0 .1) (get .ok .1 .1 .1 .1 .0 .1) (last c) (f .small (a .h) (a .i + 1) (le-refl (a .h)) (omega arith) (le-refl (a .i + 1)))
 
-returns : tie.Need-returns Inv-loop μ-loop
-returns c =
-    let l = c .before .loop in
-    let a = c .before .before .before .before .before .before .before .before .before .args in
-    sweep-at (l .inv .4) (let e : a .h * 129 + l .l ≡ a .h * 129 + (a .i + 1) = omega arith in e)
+far : (c : tie.After-plus) → let a = c .before .before .before .before .before .before .before .before .before .before .before .args in value (c .plus .result) ≡ value (a .own) + pairs (a .counts .now) (a .highs .now) (a .lows .now) (a .h) (a .i + 1)
+far c = c .plus .ensures ∙ ap (λ (x : ℕ). value (c .before .before .before .before .before .before .before .before .before .before .before .args .own) + x) (last (c .before))
+
+row-joined-requires : tie.Need-row-joined-requires
+row-joined-requires c κs =
+    let p = c .before .before .before .before .before .before .before .before .before .before .before .before .before .before .before .before .pre in (p .0, p .1, p .2, p .3, p .4, p .5, far (c .before .before .before .before .before), sym (c .before .before .before .before .is-marked .ensures) ∙ c .before .before .before .if1 .taken)
+
+row-apart-requires : tie.Need-row-apart-requires
+row-apart-requires c κs =
+    let p = c .before .before .before .before .before .before .before .before .before .before .before .before .before .before .before .before .pre in (p .0, p .1, p .2, p .3, p .4, p .5, far (c .before .before .before .before .before), sym (c .before .before .before .before .is-marked .ensures) ∙ c .before .before .before .if1 .left)
+
+returns : tie.Need-returns
+returns c = c .before .before .before .before .before .before .row-joined .ensures
+
+returns-2 : tie.Need-returns-2
+returns-2 c = c .before .before .before .before .before .before .row-apart .ensures
 
 pub row-spec : {M : Type 1} → statement M
 row-spec =
     tie.close
     (tie.spec
-    Inv-loop
-    μ-loop
+    (λ c. search needs)
     (λ c κs. search needs)
+    add-get
+    get-requires
+    plus-requires
     (λ c κs. search needs)
-    (λ c. search needs)
-    (λ c. search needs)
-    loop-holds
-    weight-at-requires
-    (λ c. search needs)
-    put-requires
-    (λ c. search needs)
-    (λ c. search needs)
-    loop-again
+    row-joined-requires
+    row-apart-requires
     (λ c. search needs)
     (λ c. search needs)
     (λ c. search needs)
-    returns)
+    returns
+    (λ c. search needs)
+    (λ c. search needs)
+    (λ c. search needs)
+    returns-2)

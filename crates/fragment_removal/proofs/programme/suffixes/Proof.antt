@@ -5,32 +5,32 @@ use Prim.Native.Nat.{ℕ, _-_, _≤_}
 use native.Mathlib.Nat.{le-antisymm}
 use lib.ListN.{length}
 use borrow.Author.Needs.{needs}
-use Rattle.matrix.specs.Algorithm.Matrix.{matrixGrid}
+use Rattle.masks.specs.Algorithm.Masks.{wordsGrid}
 use Rattle.fragment_removal.specs.Algorithm.Pairs.{pairs, HoldsFragments}
 use Rattle.fragment_removal.proofs.programme.suffixes.Statement.{statement}
 use Rattle.fragment_removal.proofs.programme.suffixes.Tie as tie
 
 abbrev Inv-loop : tie.InvT-loop
-Inv-loop m n cells masks reaches counts₀ highs₀ lows₀ k₀ counts highs lows k =
-    (k ≤ m) × (length counts ≡ length counts₀) × (length highs ≡ length highs₀) × (length lows ≡ length lows₀) × HoldsFragments (matrixGrid m n cells) k (pairs counts highs lows)
+Inv-loop m n masks reaches counts₀ highs₀ lows₀ k₀ counts highs lows k =
+    (k ≤ m) × (length counts ≡ length counts₀) × (length highs ≡ length highs₀) × (length lows ≡ length lows₀) × HoldsFragments (wordsGrid m n masks) k (pairs counts highs lows)
 
 abbrev μ-loop : tie.MeasureT-loop
-μ-loop m n cells masks reaches counts₀ highs₀ lows₀ k₀ counts highs lows k = m - k
+μ-loop m n masks reaches counts₀ highs₀ lows₀ k₀ counts highs lows k = m - k
 
 loop-holds : tie.Need-loop-holds Inv-loop μ-loop
 loop-holds c =
-    let start = c .before .before .before .before .before .before in
+    let start = c .before .before .before .before .before in
     (search needs, refl, refl, refl, start .pre .2)
 
 extend-requires : tie.Need-extend-requires Inv-loop μ-loop
 extend-requires c κs =
     let loop = c .before .before .before .before .loop in
-    let p = c .before .before .before .before .before .before .before .before .before .before .before .pre in
+    let p = c .before .before .before .before .before .before .before .before .before .before .pre in
     (p .0, search needs, record { counts-size = let z = p .1 .counts-size in search needs; highs-size = let z = p .1 .highs-size in search needs; lows-size = let z = p .1 .lows-size in search needs }, loop .inv .4)
 
 add-k : tie.Need-add-k Inv-loop μ-loop
 add-k c =
-    let h = c .before .before .before .before .before .before .before .before .before .before .before .before .before .before .before .before .before .before .pre .0 .matrix .rows in search needs
+    let h = c .before .before .before .before .before .before .before .before .before .before .before .before .before .before .before .before .before .pre .0 .few in search needs
 
 loop-again : tie.Need-loop-again Inv-loop μ-loop
 loop-again c =
@@ -40,8 +40,8 @@ loop-again c =
 returns : tie.Need-returns Inv-loop μ-loop
 returns c =
     let l = c .before .loop in
-    let a = c .before .before .before .before .before .before .before .before .args in
-    subst (λ (k : ℕ). HoldsFragments (matrixGrid (a .m) (a .n) (a .cells .now)) k (pairs (l .counts) (l .highs) (l .lows))) (le-antisymm (l .inv .0) (c .loop-test .left)) (l .inv .4)
+    let a = c .before .before .before .before .before .before .before .args in
+    subst (λ (k : ℕ). HoldsFragments (wordsGrid (a .m) (a .n) (a .masks .now)) k (pairs (l .counts) (l .highs) (l .lows))) (le-antisymm (l .inv .0) (c .loop-test .left)) (l .inv .4)
 
 pub suffixes-spec : {M : Type 1} → statement M
 suffixes-spec =
