@@ -2,7 +2,7 @@
 -- Assumes nothing.
 use mathlib.Core.Path.{_≡_, sym, ap, subst, _∙_}
 use mathlib.Core.List.{List, [], _∷_}
-use Prim.Native.Nat.{ℕ, _+_, _*_, _≤_, _<_}
+use Prim.Native.Nat.{ℕ, _+_, _*_, _<_}
 use native.Mathlib.Omega.{arith}
 use lib.Dec.{T}
 use lib.ListN.{length}
@@ -14,7 +14,7 @@ use Rattle.records.specs.Outcome.{Verdict, accepted, refused}
 use Rattle.records.specs.Rules.{Rule, decide, sizeRules, tableRules}
 use Rattle.records.specs.Algorithm.Kept.{SizesKept, RecordsKept}
 use Rattle.records.proofs.RuleLaws.{accepted-count, rule-broken, rule-kept, decide-none, stage-kept, stage-refused, stage-last}
-use Rattle.records.proofs.AcceptedLaws.{sized-count, sized-n, sized-m}
+use Rattle.records.proofs.AcceptedLaws.{sized-count, sized-m}
 use Rattle.conflicts.specs.Choice.{marked, keepAll}
 use Rattle.conflicts.specs.Grid.{gridOf}
 use Rattle.conflicts.specs.Counts.{conflictCount, conflictCounts, CountsTold}
@@ -24,8 +24,9 @@ use Rattle.conflicts.proofs.Outcomes.{counts-refused}
 use Rattle.conflicts.proofs.SideLaws.{kept-all}
 use Rattle.places.specs.declared.places.Places.{Places}
 use Rattle.places.specs.Algorithm.Places.{placesWhere}
-use Rattle.masks.specs.Algorithm.Masks.{maskWords}
+use Rattle.masks.specs.Algorithm.Masks.{maskWords, LetteredTable}
 use Rattle.masks.specs.Algorithm.Pairs.{pairMatrix, Compared}
+use Rattle.masks.proofs.RecordLaws.{kept-letters}
 use Rattle.masks.proofs.TableLaws.{table-masks}
 use Rattle.masks.proofs.PairLaws.{matrix-at, number-kept}
 use Rattle.counting.specs.Algorithm.Rows.{rowsOf}
@@ -46,7 +47,7 @@ rows-at m matrix i j e hi hj = sym (ap (λ (k : ℕ). nth (rowsOf m matrix) (k +
 
 module _ (n m : ℕ) (table : List ℕ) (sized : SizesKept n m table) (kept : RecordsKept n table) where
   -- the rows of the matrix of all pairs
-  pub rows-count : {words cols frags matrix : List ℕ} {keep : Places} → ((k : ℕ) → k ≤ 128 → RecordsKept k table → words ≡ maskWords (gridOf k table)) → cols ≡ keepAll n → frags ≡ keepAll m
+  pub rows-count : {words cols frags matrix : List ℕ} {keep : Places} → ((k : ℕ) → LetteredTable k table → words ≡ maskWords (gridOf k table)) → cols ≡ keepAll n → frags ≡ keepAll m
       → keep ≡ placesWhere (marked cols) → matrix ≡ pairMatrix words keep frags → rowsOf m matrix ≡ conflictCounts (gridOf n table)
   unfolding rowsOf conflictCounts gridOf
   rows-count {words} {cols} {frags} {matrix} {keep} are ek ef ep em =
@@ -57,7 +58,7 @@ module _ (n m : ℕ) (table : List ℕ) (sized : SizesKept n m table) (kept : Re
       entry i j hi hj =
           let few = sized-m sized in
           let count = sized-count sized in
-          let by : Compared (gridOf n table) cols words keep = record { masks = table-masks sized kept (are n (sized-n sized) kept); columns = ep } in
+          let by : Compared (gridOf n table) cols words keep = record { masks = table-masks sized kept (are n (kept-letters kept)); columns = ep } in
           let marked-at : (k : ℕ) → k < m → T (marked frags k) = λ k h. subst (λ (l : List ℕ). T (marked l k)) (sym ef) (kept-all m k h) in
           ap (λ (l : List ℕ). nth l (i * 128 + j)) em
           ∙ matrix-at words keep frags i j (omega arith) (omega arith)

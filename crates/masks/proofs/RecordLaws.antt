@@ -1,4 +1,4 @@
--- The letters of a sound record, further up by its start, are those of its fragment.
+-- The letters of a record, further up by its start, are those of its fragment.
 -- Assumes nothing.
 use mathlib.Core.Path.{_≡_, refl, sym, ap, ap₂, _∙_}
 use mathlib.Core.Bool.{Bool, true, false}
@@ -21,7 +21,7 @@ use Rattle.records.proofs.PackLaws.{Sound, sound-fits, sound-small, sound-after
 use Rattle.records.proofs.AcceptedLaws.{accepted-sound}
 use Rattle.records.specs.Algorithm.Kept.{RecordsKept}
 use Rattle.conflicts.specs.Grid.{gridOf}
-use Rattle.masks.specs.Algorithm.Masks.{hasLetter, lineOf}
+use Rattle.masks.specs.Algorithm.Masks.{hasLetter, lineOf, Lettered, LetteredTable}
 use Rattle.masks.proofs.LineLaws.{line}
 
 -- what holds of 0, 1 and 2 holds of each number up to 2
@@ -45,7 +45,7 @@ unfolding _and_
 and-none true = refl
 and-none false = refl
 
-module _ (n : ℕ) (r : List ℕ) (sound : Sound n r) (test : ℕ → Bool) (letter : ℕ) (is : (x : ℕ) → x ≤ 2 → test x ≡ (x == letter)) (some : 0 < letter) where
+module _ (n : ℕ) (r : List ℕ) (lettered : Lettered n r) (test : ℕ → Bool) (letter : ℕ) (is : (x : ℕ) → x ≤ 2 → test x ≡ (x == letter)) (some : 0 < letter) where
   none : (x : ℕ) → x ≡ 0 → test x ≡ false
   none x e = is x (omega arith) ∙ ==-false x letter (λ q. omega arith)
 
@@ -59,27 +59,32 @@ module _ (n : ℕ) (r : List ℕ) (sound : Sound n r) (test : ℕ → Bool) (let
     | yes l ↦ rw (≤?-false (startOf r) c l) (out c (λ h. absurd (omega arith)))
     | no l ↦ elim (decLt c (startOf r + spanOf r)) [
       | yes h ↦
-          let fits = sound-fits n r sound in
-          rw (≤?-true (startOf r) c (omega arith), <?-true c n (omega arith), codeAt-in r c (omega arith) h) (is _ (sound-small n r sound (c - startOf r) (omega arith)))
-      | no h ↦ rw (≤?-true (startOf r) c (omega arith)) (none _ (empty (c - startOf r) (omega arith)) ∙ out c (λ k. omega arith))
+          let fits = lettered .fits in
+          rw (≤?-true (startOf r) c (omega arith), <?-true c n (omega arith), codeAt-in r c (omega arith) h) (is _ (lettered .small (c - startOf r) (omega arith)))
+      | no h ↦ rw (≤?-true (startOf r) c (omega arith)) (none _ (lettered .after (c - startOf r) (omega arith)) ∙ out c (λ k. omega arith))
     ]
   ]
-    where
-      empty : (k : ℕ) → spanOf r ≤ k → cellOf r k ≡ 0
-      empty k h = elim (decLt k 96) [ yes l ↦ sound-after n r sound k h l | no l ↦ cell-past r k (omega arith) ]
 
--- fragment i of a table that keeps its rules
-module _ {n i : ℕ} {table : List ℕ} (kept : RecordsKept n table) (inside : i < fragments table) where
+-- records that keep their rules
+pub kept-letters : {n : ℕ} {table : List ℕ} → RecordsKept n table → LetteredTable n table
+kept-letters {n} {table} kept = record { each = λ i h. lettered (recordAt table i) (accepted-sound n table _ _ (kept .kept) i h) }
+  where
+    lettered : (r : List ℕ) → Sound n r → Lettered n r
+    lettered r sound = record {
+      fits = sound-fits n r sound;
+      small = sound-small n r sound;
+      after = λ k h. elim (decLt k 96) [ yes l ↦ sound-after n r sound k h l | no l ↦ cell-past r k (omega arith) ];
+    }
+
+-- fragment i of a table
+module _ {n i : ℕ} {table : List ℕ} (lettered : LetteredTable n table) (inside : i < fragments table) where
   abbrev bytes : List ℕ
   bytes = recordAt table i
-
-  sound-record : Sound n bytes
-  sound-record = accepted-sound n table _ _ (kept .kept) i inside
 
   letters-at : (test : ℕ → Bool) (letter : ℕ) → ((x : ℕ) → x ≤ 2 → test x ≡ (x == letter)) → 0 < letter
       → placesWhere (λ c. startOf bytes ≤? c and test (cellOf bytes (c - startOf bytes))) ≡ placesWhere (hasLetter (gridOf n table) letter i)
   unfolding hasLetter gridOf _and_
-  letters-at test letter is some = where-ext _ _ (λ c h. letter-at n bytes sound-record test letter is some c ∙ rw (<?-true i (fragments table) inside))
+  letters-at test letter is some = where-ext _ _ (λ c h. letter-at n bytes (lettered .each i inside) test letter is some c ∙ rw (<?-true i (fragments table) inside))
 
   pub record-line : {x : Line} {a b : Places} {s : ℕ} → x ≡ lettersOf bytes → s ≡ startOf bytes
       → ((p : ℕ → Bool) → x .a ≡ placesWhere p → a ≡ placesWhere (λ c. s ≤? c and p (c - s))) → ((p : ℕ → Bool) → x .b ≡ placesWhere p → b ≡ placesWhere (λ c. s ≤? c and p (c - s)))

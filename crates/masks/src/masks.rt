@@ -3,11 +3,10 @@ ghost use mathlib.Core.Path.{_≡_};
 ghost use Prim.Native.Nat.{ℕ, _+_, _<_, _≤_};
 ghost use lib.ListN.{length};
 ghost use Rattle.fields.specs.Table.{fragments};
-ghost use Rattle.records.specs.Algorithm.Kept.{RecordsKept};
 ghost use Rattle.conflicts.specs.Grid.{Grid, gridOf};
 ghost use Rattle.places.specs.Algorithm.Words.{wordOf};
 ghost use Rattle.places.specs.Algorithm.Places.{hasPlace};
-ghost use Rattle.masks.specs.Algorithm.Masks.{lineOf, maskWords, lineAt, transposed, Masks, WordsBegun};
+ghost use Rattle.masks.specs.Algorithm.Masks.{lineOf, maskWords, lineAt, transposed, Masks, LetteredTable, WordsBegun};
 use fields::letters_of;
 use fields::record_at;
 use fields::start;
@@ -61,7 +60,7 @@ fn put_line(masks: &mut [u64], i: usize, line: Line)
 // The letters of fragment i at its columns: those of its record's cells, further up by its start.
 fn fragment_line(table: &[u8], i: usize) -> Line
     requires { ⌜ i < fragments (now table) ⌝ }
-    ensures { λ r. ⌜ ((n : ℕ) → n ≤ 128 → RecordsKept n (now (table .entry)) → r ≡ lineOf (gridOf n (now (table .entry))) i) ⌝ }
+    ensures { λ r. ⌜ ((n : ℕ) → LetteredTable n (now (table .entry)) → r ≡ lineOf (gridOf n (now (table .entry))) i) ⌝ }
 {
     let part = record_at(table, i);
     let letters = letters_of(part);
@@ -74,7 +73,7 @@ fn fragment_line(table: &[u8], i: usize) -> Line
 
 // The same, and no letters where there is no fragment i.
 fn line_of(table: &[u8], i: usize) -> Line
-    ensures { λ r. ⌜ ((n : ℕ) → n ≤ 128 → RecordsKept n (now (table .entry)) → r ≡ lineOf (gridOf n (now (table .entry))) i) ⌝ }
+    ensures { λ r. ⌜ ((n : ℕ) → LetteredTable n (now (table .entry)) → r ≡ lineOf (gridOf n (now (table .entry))) i) ⌝ }
 {
     if i < table.len() / 32 {
         return fragment_line(table, i);
@@ -85,10 +84,10 @@ fn line_of(table: &[u8], i: usize) -> Line
     }
 }
 
-// The columns at which each fragment of a table has A, and those at which it has B. The records keep their rules.
+// The columns at which each fragment of a table has A, and those at which it has B.
 pub fn fill_masks(table: &[u8], masks: &mut [u64])
     requires { ⌜ length (now masks) ≡ 512 ⌝ }
-    ensures { λ _. ⌜ ((n : ℕ) → n ≤ 128 → RecordsKept n (now (table .entry)) → now (masks .exit) ≡ maskWords (gridOf n (now (table .entry)))) ⌝ }
+    ensures { λ _. ⌜ ((n : ℕ) → LetteredTable n (now (table .entry)) → now (masks .exit) ≡ maskWords (gridOf n (now (table .entry)))) ⌝ }
 {
     let mut i = 0;
     while i < 128 {

@@ -3,7 +3,7 @@
 use mathlib.Core.Path.{_≡_, refl, sym, ap, subst, _∙_}
 use mathlib.Core.Bool.{Bool, true, false}
 use mathlib.Core.List.{List, [], _∷_}
-use Prim.Native.Nat.{ℕ, _≤_}
+use Prim.Native.Nat.{ℕ}
 use mathlib.Core.Logic.{inl, inr}
 use native.Mathlib.Nat.{eq-zero-or-pos}
 use native.Mathlib.Omega.{arith}
@@ -20,24 +20,25 @@ use Rattle.conflicts.specs.Sides.{errorFree, firstSides}
 use Rattle.conflicts.specs.Answer.{answerSize, answer, checkAnswer}
 use Rattle.conflicts.specs.Services.{writtenOnYes, lengthRule, checkRules, checkLeaves}
 use Rattle.conflicts.proofs.Outcomes.{check-refused, check-yes, check-no, check-answer}
-use Rattle.masks.specs.Algorithm.Masks.{Masks, maskWords}
+use Rattle.masks.specs.Algorithm.Masks.{Masks, maskWords, LetteredTable}
+use Rattle.masks.proofs.RecordLaws.{kept-letters}
 use Rattle.masks.proofs.TableLaws.{table-masks}
 use Rattle.phasing.specs.Algorithm.Answer.{AnswerFound}
 use Rattle.conflicts.specs.Minimality.{AgreeingClasses, ErrorFreeAnswer}
 use Rattle.conflicts.proofs.GridLaws.{classes-agree}
 use Rattle.records.specs.Algorithm.Kept.{SizesKept, RecordsKept}
 use Rattle.verdicts.specs.Meanings.{CheckSays}
-use Rattle.records.proofs.AcceptedLaws.{sized-count, sized-n}
+use Rattle.records.proofs.AcceptedLaws.{sized-count}
 
 -- ---- the masks
 
 -- what phasing the masks left, said of the table
 pub table-found : {n m : ℕ} {table words cols frags before after : List ℕ} {ok : Bool} → SizesKept n m table → RecordsKept n table
-    → ((k : ℕ) → k ≤ 128 → RecordsKept k table → words ≡ maskWords (gridOf k table)) → cols ≡ keepAll n → frags ≡ keepAll m
+    → ((k : ℕ) → LetteredTable k table → words ≡ maskWords (gridOf k table)) → cols ≡ keepAll n → frags ≡ keepAll m
     → ((g : Grid) → Masks g words → m ≡ g .m → n ≡ g .n → AnswerFound g cols frags ok before after) → AnswerFound (gridOf n table) (keepAll n) (keepAll m) ok before after
 unfolding gridOf
 table-found {n} {m} {table} {cols = cols} {frags} {before} {after} {ok} sized kept are f g found =
-    let a = found (gridOf n table) (table-masks sized kept (are n (sized-n sized) kept)) (sym (sized-count sized)) refl in
+    let a = found (gridOf n table) (table-masks sized kept (are n (kept-letters kept))) (sym (sized-count sized)) refl in
     let b = subst (λ (x : List ℕ). AnswerFound (gridOf n table) x frags ok before after) f a in
     subst (λ (x : List ℕ). AnswerFound (gridOf n table) (keepAll n) x ok before after) g b
 

@@ -6,7 +6,8 @@ use mathlib.Core.List.{List}
 use Prim.Native.Nat.{ℕ, _+_, _*_, _/_, _%_, _≤_, _<_}
 use lib.ListN.{length}
 use Rattle.below.specs.Below.{if_then_else_, _==_, _<?_, _and_, tab, nth}
-use Rattle.records.specs.Algorithm.Kept.{RecordsKept}
+use Rattle.fields.specs.Record.{startOf, spanOf, cellOf}
+use Rattle.fields.specs.Table.{fragments, recordAt}
 use Rattle.conflicts.specs.Grid.{Grid, gridOf}
 use Rattle.places.specs.declared.lines.Line.{Line}
 use Rattle.places.specs.Algorithm.Words.{halfWord}
@@ -59,10 +60,20 @@ pub record WordsBegun (g : Grid) (i : ℕ) (words : List ℕ) : Type 0 where
   pub sized : length words ≡ 512
   pub done : (k : ℕ) → k < i * 4 → nth words k ≡ maskWord g k
 
+-- what the letters of a record must be for its fragment to have them: none past the span, none with both bits, and the span among n columns
+pub record Lettered (n : ℕ) (r : List ℕ) : Type 0 where
+  pub fits : startOf r + spanOf r ≤ n
+  pub small : (k : ℕ) → k < spanOf r → cellOf r k ≤ 2
+  pub after : (k : ℕ) → spanOf r ≤ k → cellOf r k ≡ 0
+
+-- … for each record of a table
+pub record LetteredTable (n : ℕ) (table : List ℕ) : Type 0 where
+  pub each : (i : ℕ) → i < fragments table → Lettered n (recordAt table i)
+
 -- … of the table, whatever its columns
 pub record TableBegun (table : List ℕ) (i : ℕ) (words : List ℕ) : Type 0 where
   pub sized : length words ≡ 512
-  pub begun : (n : ℕ) → n ≤ 128 → RecordsKept n table → WordsBegun (gridOf n table) i words
+  pub begun : (n : ℕ) → LetteredTable n table → WordsBegun (gridOf n table) i words
 
 -- … of the columns of a matrix whose fragments have other words
 pub record ColumnsBegun (words : List ℕ) (i : ℕ) (columns : List ℕ) : Type 0 where

@@ -16,7 +16,7 @@ abbrev μ-loop : tie.MeasureT-loop
 μ-loop table masks₀ i₀ masks i = 128 - i
 
 loop-holds : tie.Need-loop-holds Inv-loop μ-loop
-loop-holds c = let e = c .before .before .pre in (search needs, record { sized = e; begun = λ n narrow kept. words-none _ e })
+loop-holds c = let e = c .before .before .pre in (search needs, record { sized = e; begun = λ n lettered. words-none _ e })
 
 put-line-requires : tie.Need-put-line-requires Inv-loop μ-loop
 put-line-requires c κs = (c .before .before .before .loop .inv .1 .sized, search needs)
@@ -28,7 +28,7 @@ loop-again c =
       search needs,
       record {
         sized = (let e = lp .inv .1 .sized in search needs);
-        begun = λ n narrow kept. c .before .before .put-line .ensures (gridOf n t) (c .before .before .before .line-of .ensures n narrow kept) (lp .inv .1 .begun n narrow kept);
+        begun = λ n lettered. c .before .before .put-line .ensures (gridOf n t) (c .before .before .before .line-of .ensures n lettered) (lp .inv .1 .begun n lettered);
       },
     )
 
@@ -36,7 +36,7 @@ same-length : tie.Need-same-length Inv-loop μ-loop
 same-length c = let e = c .before .loop .inv .1 .sized in search needs
 
 returns : tie.Need-returns Inv-loop μ-loop
-returns c = let lp = c .before .loop in λ n narrow kept. words-all _ (lp .i) (lp .inv .0) (c .loop-test .left) (lp .inv .1 .begun n narrow kept)
+returns c = let lp = c .before .loop in λ n lettered. words-all _ (lp .i) (lp .inv .0) (c .loop-test .left) (lp .inv .1 .begun n lettered)
 
 pub fill-masks-spec : {M : Type 1} → statement M
 fill-masks-spec = tie.close (tie.spec Inv-loop μ-loop loop-holds (λ c κs. search needs) put-line-requires (λ c. search needs) (λ c. search needs) loop-again same-length returns)

@@ -23,8 +23,8 @@ letters-of-requires c κs = ap length (part-read c) ∙ length-recordAt _ (c .be
 returns : tie.Need-returns
 returns c =
     let part = part-read (c .before .before .before .before) in
-    λ n narrow kept.
-    record-line kept (c .before .before .before .before .before .before .pre) (c .before .before .before .letters-of .ensures ∙ ap lettersOf part) (c .before .before .start .ensures ∙ ap startOf part) (c .before .raised .ensures) (c .raised2 .ensures)
+    λ n lettered.
+    record-line lettered (c .before .before .before .before .before .before .pre) (c .before .before .before .letters-of .ensures ∙ ap lettersOf part) (c .before .before .start .ensures ∙ ap startOf part) (c .before .raised .ensures) (c .raised2 .ensures)
 
 pub fragment-line-spec : {M : Type 1} → statement M
 fragment-line-spec =

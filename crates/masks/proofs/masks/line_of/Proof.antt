@@ -13,7 +13,7 @@ fragment-line-requires c κs = search needs
 
 returns-2 : tie.Need-returns-2
 unfolding gridOf fragments
-returns-2 c = λ n narrow kept. line-none (gridOf n (c .before .before .args .table .now)) (c .before .before .args .i) (c .if1 .left)
+returns-2 c = λ n lettered. line-none (gridOf n (c .before .before .args .table .now)) (c .before .before .args .i) (c .if1 .left)
 
 pub line-of-spec : {M : Type 1} → statement M
 line-of-spec = tie.close (tie.spec fragment-line-requires (λ c. c .fragment-line .ensures) returns-2)

@@ -9,6 +9,7 @@ use Rattle.records.proofs.AcceptedLaws.{gapless-records, sized-n, sized-m}
 use Rattle.conflicts.specs.Choice.{zeros}
 use Rattle.conflicts.proofs.MarkLaws.{all-kept-part}
 use Rattle.conflicts.proofs.SideLaws.{all-length}
+use Rattle.masks.proofs.RecordLaws.{kept-letters}
 use Rattle.masks.proofs.TableLaws.{words-masks, words-gapless, words-rising, words-fragment}
 use Rattle.removals.proofs.TableRemovalLaws.{table-fragment-answer}
 use Rattle.removals.proofs.fragments.phase_fragments.Statement.{statement}
@@ -19,7 +20,7 @@ fragment-keep-marks-requires c κs =
     let start = c .before .before .before .before .before .before .before .before .before .before .before in
     let p = start .pre in
     let kept = gapless-records (p .1 .0) in
-    let are = c .before .before .before .before .fill-masks .ensures (start .args .n) (sized-n (p .0)) kept in
+    let are = c .before .before .before .before .fill-masks .ensures (start .args .n) (kept-letters kept) in
     let h = p .1 .1 .0 in
     (sized-m (p .0), sized-n (p .0), search needs, words-masks (p .0) kept are, words-gapless (p .0) kept are (p .1 .0), words-rising (p .0) kept are, omega arith, p .1 .1 .1 .0)
 
@@ -49,7 +50,7 @@ returns c =
     let start = c .before .before .before .before .before .before .before .before .before .before .before .before .before .before .before .before .before .before .before .before .before .before .before .before .before in
     let p = start .pre in
     let kept = gapless-records (p .1 .0) in
-    let are = c .before .before .before .before .before .before .before .before .before .before .before .before .before .before .before .before .before .before .fill-masks .ensures (start .args .n) (sized-n (p .0)) kept in
+    let are = c .before .before .before .before .before .before .before .before .before .before .before .before .before .before .before .before .before .before .fill-masks .ensures (start .args .n) (kept-letters kept) in
     let e = c .before .before .before .before .before .before .before .before .before .before .before .before .before .fragment-keep-marks .ensures in
     let cols = all-kept-part (start .args .n) _ (sized-n (p .0)) (c .before .before .before .before .before .before .before .before .all-kept .ensures) in
     (e .1 ∙ ap zeros (words-fragment (p .0) kept are), (e .2, table-fragment-answer (p .0) kept are cols (e .0) (c .before .before .phase .ensures)))

@@ -5,6 +5,7 @@ use mathlib.Core.Path.{ap, _∙_}
 use Rattle.conflicts.specs.Choice.{zeros}
 use Rattle.records.proofs.AcceptedLaws.{gapless-records, sized-n, sized-m}
 use Rattle.conflicts.proofs.SideLaws.{all-length}
+use Rattle.masks.proofs.RecordLaws.{kept-letters}
 use Rattle.masks.proofs.TableLaws.{words-masks, words-gapless, words-snp}
 use Rattle.removals.proofs.TableRemovalLaws.{table-answer}
 use borrow.Author.Needs.{needs}
@@ -16,7 +17,7 @@ snp-keep-marks-requires c κs =
     let start = c .before .before .before .before .before .before .before .before .before .before in
     let p = start .pre in
     let kept = gapless-records (p .1 .0) in
-    let are = c .before .before .before .fill-masks .ensures (start .args .n) (sized-n (p .0)) kept in
+    let are = c .before .before .before .fill-masks .ensures (start .args .n) (kept-letters kept) in
     (sized-m (p .0), sized-n (p .0), search needs, words-masks (p .0) kept are, words-gapless (p .0) kept are (p .1 .0), p .1 .1 .1 .0)
 
 phase-requires : tie.Need-phase-requires
@@ -38,7 +39,7 @@ returns c =
     let start = c .before .before .before .before .before .before .before .before .before .before .before .before .before .before .before .before .before .before .before in
     let p = start .pre in
     let kept = gapless-records (p .1 .0) in
-    let are = c .before .before .before .before .before .before .before .before .before .before .before .before .fill-masks .ensures (start .args .n) (sized-n (p .0)) kept in
+    let are = c .before .before .before .before .before .before .before .before .before .before .before .before .fill-masks .ensures (start .args .n) (kept-letters kept) in
     let e = c .before .before .before .before .before .before .before .before .snp-keep-marks .ensures in
     (e .1 ∙ ap zeros (words-snp (p .0) kept are), table-answer (p .0) kept are (e .0) (p .1 .1 .0) (c .before .before .phase .ensures))
 
