@@ -36,13 +36,15 @@ row-inside h l e lh small = let after = row-after h 129 (omega arith) in omega a
 
 -- ---- a pair of states has one place
 
-pub corner-row : (h l : ℕ) → l ≤ h → corner h l ≡ rowStart h + l
-unfolding corner
-corner-row h l le = ap₂ (λ (x y : ℕ). rowStart x + y) (max-eq-left le) (min-eq-right le)
-
+-- whichever side is at which state
 pub corner-swap : (h l : ℕ) → corner h l ≡ corner l h
 unfolding corner
 corner-swap h l = ap₂ (λ (x y : ℕ). rowStart x + y) (max-comm h l) (min-comm h l)
+
+-- in the row of the later state
+pub corner-row : (h l : ℕ) → l ≤ h → corner h l ≡ rowStart h + l
+unfolding corner
+corner-row h l le = ap₂ (λ (x y : ℕ). rowStart x + y) (max-eq-left le) (min-eq-right le)
 
 -- the place of state h and the one after position i, in that one's row
 pub corner-last : {last : ℕ} (h i : ℕ) → last ≡ rowStart (i + 1) → h ≤ i → last + h ≡ corner h (i + 1)
