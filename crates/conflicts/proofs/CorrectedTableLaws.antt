@@ -79,13 +79,13 @@ module _ (r : List ℕ) (row : ℕ → ℕ) (full : length r ≡ 32) where
       ∙ getD-append-add (take 8 r) (cellBytes codes) (b - 8) 0
       ∙ cellByte-at codes (b - 8) (omega arith)
 
-  rewritten-start : startOf (rewritten r row) ≡ startOf r
+  pub rewritten-start : startOf (rewritten r row) ≡ startOf r
   rewritten-start =
       start-bytes (rewritten r row)
       ∙ ap₂ (λ (x y : ℕ). x + 256 * y) (rewritten-header 4 (omega arith)) (rewritten-header 5 (omega arith))
       ∙ sym (start-bytes r)
 
-  rewritten-span : spanOf (rewritten r row) ≡ spanOf r
+  pub rewritten-span : spanOf (rewritten r row) ≡ spanOf r
   unfolding spanOf
   rewritten-span = rewritten-header 6 (omega arith)
 
@@ -168,6 +168,10 @@ module _ (g : Grid) (sides : List ℕ) (i c : ℕ) where
   unfolding corrected withCells correctedCell
   corrected-small h = if-ind (λ x. x < 4) (isCall (g .cell i c)) (λ t. let l = call-range _ (letter-call g sides (getD sides i 0) c) in omega arith) (λ t. h)
 
+  pub corrected-two : g .cell i c ≤ 2 → corrected g sides .cell i c ≤ 2
+  unfolding corrected withCells correctedCell
+  corrected-two h = if-ind (λ x. x ≤ 2) (isCall (g .cell i c)) (λ t. let l = call-range _ (letter-call g sides (getD sides i 0) c) in omega arith) (λ t. h)
+
   pub corrected-hole : T (isnt (isCall (g .cell i c))) → corrected g sides .cell i c ≡ g .cell i c
   unfolding corrected withCells correctedCell
   corrected-hole t = if-false (isCall (g .cell i c)) _ _ t
@@ -191,7 +195,7 @@ module _ (n : ℕ) (table : List ℕ) where
   unfolding correctedTable recordsWith
   record-corrected i h = recordAt-row (correctedTable n table) i ∙ row-at 32 (fragments table) (λ i. rewritten (recordAt table i) (row i)) record-length i h
 
-  row-small : (i c : ℕ) → row i c < 4
+  pub row-small : (i c : ℕ) → row i c < 4
   unfolding correctedGrid gridOf
   row-small i c = corrected-small (gridOf n table) (leastCostSides 2 (gridOf n table)) i c (code-small (recordAt table i) c)
 

@@ -4,34 +4,41 @@ use mathlib.Core.Path.{_≡_, sym, ap, ap₂, subst, _∙_}
 use mathlib.Core.List.{List}
 use Prim.Native.Nat.{ℕ, _+_, _*_, _≤_, _<_}
 use native.Mathlib.Nat.{lt-of-lt-of-le}
+use native.Mathlib.Decide.{decLt}
 use native.Mathlib.Omega.{arith}
 use lib.Dec.{lit≤}
 use lib.ListN.{length, getD, replicate}
 use Rattle.below.specs.Below.{nth, concat, _<?_}
+use Rattle.fields.specs.Record.{startOf, spanOf, codeAt}
 use Rattle.fields.specs.Table.{fragments, recordAt}
 use Rattle.records.specs.Outcome.{Verdict, accepted, refused}
 use Rattle.records.specs.Rules.{decide}
-use Rattle.below.proofs.BelowLaws.{length-tab}
+use Rattle.below.proofs.BelowLaws.{T-isnt, lt-<?, le-isnt}
 use Rattle.below.proofs.RowLaws.{tab-ext}
 use Rattle.records.proofs.RuleLaws.{stage-last, stages-kept, stages-refused}
-use Rattle.records.proofs.PackLaws.{sound-fits}
+use Rattle.fields.proofs.ByteLaws.{cell-past}
+use Rattle.records.proofs.PackLaws.{Sound, sound-narrow, sound-fits, sound-after}
+use Rattle.records.proofs.SoundLaws.{sound-row-small}
+use Rattle.records.proofs.TableLaws.{length-recordAt, fragments-of}
 use Rattle.records.proofs.AcceptedLaws.{whole-records, accepted-sound, sized-count, sized-n, sized-m}
-use Rattle.conflicts.specs.Choice.{keepAll}
-use Rattle.conflicts.specs.Grid.{Grid, gridOf, withRows, withCells}
+use Rattle.conflicts.specs.Choice.{marked, keepAll}
+use Rattle.conflicts.specs.Grid.{Grid, gridOf, withCells}
 use Rattle.matrix.specs.Algorithm.Matrix.{matrixGrid, weightedGrid}
 use Rattle.conflicts.specs.Corrections.{cost, leastCostSides, correctedCell, corrected, changedTotal}
-use Rattle.conflicts.specs.Answer.{answer, correctedGrid, correctionAnswer, recordsWith, correctedTable}
+use Rattle.conflicts.specs.Answer.{answer, correctedGrid, correctionAnswer, rewritten, recordsWith, correctedTable}
+use Rattle.conflicts.specs.Minimality.{LawfulSides}
 use Rattle.conflicts.specs.Served.{NoneDeep}
 use Rattle.conflicts.specs.Services.{written, workAfter, depthRules, correctionRules, correctionsLeaves, correctionStages}
-use Rattle.conflicts.proofs.SameLaws.{answer-cells}
 use Rattle.conflicts.proofs.LeastCorrections.{least-length, least-on}
-use Rattle.conflicts.proofs.CorrectedTableLaws.{rewritten-same, corrected-small}
+use Rattle.conflicts.proofs.CorrectionLaws.{corrected-apart}
+use Rattle.conflicts.proofs.CorrectedTableLaws.{rewritten-same, rewritten-start, rewritten-span, span-cell, later-cell, corrected-small, corrected-two, row-small, length-corrected, record-corrected, grid-corrected}
 use Rattle.conflicts.proofs.CorrectionsMinimality.{changed-number, corrections-accepted}
 use Rattle.conflicts.proofs.DeepLaws.{deep-refused, deep-kept}
-use Rattle.matrix.specs.Algorithm.Cells.{tableCells, tableWeights, MarkedMatrix}
-use Rattle.matrix.proofs.TableLaws.{cells-coverage, weighed-cost, weighed-sides, weighed-answer, weighed-cell}
+use Rattle.matrix.specs.Algorithm.Cells.{tableCells, tableWeights}
+use Rattle.masks.specs.Algorithm.Masks.{Masks, maskWords, Lettered, LetteredTable}
+use Rattle.matrix.proofs.TableLaws.{cells-coverage, weighed-cost, weighed-sides, weighed-cell}
 use Rattle.slots.specs.Algorithm.Columns.{firstDeep}
-use Rattle.rewriting.specs.Algorithm.Letters.{OnSides, correctedCells}
+use Rattle.rewriting.specs.Algorithm.Letters.{OnSides}
 use Rattle.slots.specs.Algorithm.Spans.{Spanned, deepBy}
 use Rattle.slots.proofs.DepthLaws.{deep-is, first-deep, first-none}
 use Rattle.slots.proofs.GrantLaws.{first-same}
@@ -41,7 +48,6 @@ use Rattle.correcting.specs.Algorithm.Stages.{CorrectionKept}
 use Rattle.correcting.specs.Algorithm.Settled.{Settled}
 use Rattle.correcting.specs.Meanings.{CorrectionSays}
 use Rattle.rewriting.specs.Algorithm.Rewriting.{rowIn, TwoBits, rewrittenTable}
-use Rattle.conflicts.proofs.SideLaws.{all-length}
 use Rattle.matrix.proofs.KeptLaws.{few, grid-is, table-codes}
 
 -- the sides of least cost are sides
@@ -50,6 +56,50 @@ unfolding weightedGrid
 settled-sides m n cells weights least =
     let g = weightedGrid m n cells weights in
     record { size = ap length least ∙ least-length 2 g (lit≤ tt); on = λ i h. rw least (least-on 2 g (lit≤ tt) i h) }
+
+-- the masks that were filled are those of the table
+pub filled-masks : (n : ℕ) (table : List ℕ) {m : ℕ} {words : List ℕ} → m ≤ 128 → n ≤ 128 → m ≡ fragments table → words ≡ maskWords (gridOf n table) → Masks (gridOf n table) words
+unfolding gridOf
+filled-masks n table few narrow e are = record { few = (let h = few in omega arith); narrow = narrow; are = are }
+
+-- sides of least cost are lawful after correction
+least-lawful : (g : Grid) (cols : List ℕ) → LawfulSides 2 (correctedGrid g) (marked cols) (marked (leastCostSides 2 g)) (nth (leastCostSides 2 g))
+unfolding correctedGrid corrected withCells marked
+least-lawful g cols = record {
+  on = λ i h t. least-on 2 g (lit≤ tt) i h;
+  off = λ i h t. absurd (T-isnt _ t (lt-<? 0 _ (least-on 2 g (lit≤ tt) i h .0)));
+  apart = λ i j c hi hj hc ki kj kc e t. corrected-apart g (leastCostSides 2 g) i j c e t;
+}
+
+row-two : (n : ℕ) (table : List ℕ) (i c : ℕ) → codeAt (recordAt table i) c ≤ 2 → correctedGrid (gridOf n table) .cell i c ≤ 2
+unfolding correctedGrid gridOf
+row-two n table i c h = corrected-two (gridOf n table) (leastCostSides 2 (gridOf n table)) i c h
+
+-- C's records have letters that masks can be filled from
+pub corrected-letters : {n : ℕ} {table : List ℕ} → RecordsKept n table → LetteredTable n (correctedTable n table)
+corrected-letters {n} {table} kept = record { each = λ i h. go i (subst (λ (k : ℕ). i < k) (fragments-of (correctedTable n table) (fragments table) (length-corrected n table)) h) }
+  where
+    row : ℕ → ℕ → ℕ
+    row = correctedGrid (gridOf n table) .cell
+
+    lettered : (i : ℕ) → i < fragments table → Sound n (recordAt table i) → Lettered n (rewritten (recordAt table i) (row i))
+    lettered i h sound =
+        let r = recordAt table i in
+        let full = length-recordAt table i h in
+        let e = rewritten-start r (row i) full in
+        let d = rewritten-span r (row i) full in
+        let narrow = sound-narrow n r sound in
+        record {
+          fits = (let f = sound-fits n r sound in omega arith);
+          small = λ k l. rw (span-cell r (row i) full (row-small n table i) k (omega arith) (omega arith)) (row-two n table i (startOf r + k) (sound-row-small n r sound (startOf r + k)));
+          after = λ k l. elim (decLt k 96) [
+            | yes b ↦ later-cell r (row i) full (row-small n table i) k b (le-isnt k (spanOf r) (omega arith)) ∙ sound-after n r sound k (omega arith) b
+            | no b ↦ cell-past (rewritten r (row i)) k (omega arith)
+          ];
+        }
+
+    go : (i : ℕ) → i < fragments table → Lettered n (recordAt (correctedTable n table) i)
+    go i h = subst (Lettered n) (sym (record-corrected n table i h)) (lettered i h (accepted-sound n table _ _ (kept .kept) i h))
 
 -- ---- the matrix and the bytes
 
@@ -98,33 +148,32 @@ module _ {n m : ℕ} {table cells : List ℕ} (sized : SizesKept n m table) (kep
           (λ i c hi hc. corrected-small w sides i c (let x = table-codes sized same kept i c hi hc in omega arith)) k);
     }
 
-    -- the answer is written from a whole matrix
-    pub table-phasable : {cols : List ℕ} → cols ≡ keepAll n → MarkedMatrix m n fixed cols sides
-    unfolding correctedCells
-    table-phasable all = record {
-      few = sized-m sized;
-      narrow = sized-n sized;
-      cells-long = ap length (settled .turned) ∙ length-tab 16384 _;
-      columns = ap length all ∙ all-length n;
-      fragments = settled-sides m n cells (tableWeights table) (settled .least) .size;
-    }
+    -- the sides are those of least cost of the table
+    sides-are : sides ≡ leastCostSides 2 (gridOf n table)
+    sides-are = settled .least ∙ ap (leastCostSides 2) weighed-is ∙ weighed-sides n table (sized-n sized) (few sized same) 2
+
+    pub sides-size : length sides ≡ m
+    sides-size = settled-sides m n cells (tableWeights table) (settled .least) .size
+
+    whole : gridOf n (correctedTable n table) ≡ correctedGrid (gridOf n table)
+    whole = grid-corrected n table (whole-records n table _ _ (sized .kept))
+
+    -- they are lawful in C's table
+    pub sides-lawful : (cols : List ℕ) → LawfulSides 2 (gridOf n (correctedTable n table)) (marked cols) (marked sides) (nth sides)
+    unfolding correctedGrid
+    sides-lawful cols = subst (λ (h : Grid). LawfulSides 2 h (marked cols) (marked sides) (nth sides)) (sym whole) (subst (λ (s : List ℕ). LawfulSides 2 (correctedGrid (gridOf n table)) (marked cols) (marked s) (nth s)) (sym sides-are) (least-lawful (gridOf n table) cols))
 
     -- C's answer
-    pub table-correction : {cols after : List ℕ} → cols ≡ keepAll n → after ≡ answer (matrixGrid m n fixed) cols sides → after ≡ correctionAnswer (gridOf n table)
-    unfolding correctionAnswer correctedGrid corrected withCells withRows matrixGrid weightedGrid
-    table-correction {cols} {after} all e =
-        e
-        ∙ answer-cells (matrixGrid m n fixed) (correctedCell w sides) (nth (tableWeights table)) fixed-cell cols sides
-        ∙ ap₂ (λ (c s : List ℕ). answer (corrected w s) c s) all (settled .least)
-        ∙ ap correctionAnswer weighed-is
-        ∙ weighed-answer n table (sized-n sized) (few sized same)
+    pub table-correction : {cols after : List ℕ} → cols ≡ keepAll n → after ≡ answer (gridOf n (correctedTable n table)) cols sides → after ≡ correctionAnswer (gridOf n table)
+    unfolding correctionAnswer gridOf
+    table-correction {cols} all e = e ∙ ap (λ (h : Grid). answer h cols sides) whole ∙ ap₂ (answer (correctedGrid (gridOf n table))) all sides-are
 
     -- a corrected cell, read from the bytes
     fixed-code : (i c : ℕ) → i < fragments table → c < n → getD fixed (i * 128 + c) 0 ≡ correctedGrid (gridOf n table) .cell i c
     unfolding correctedGrid corrected withCells
     fixed-code i c hi hc =
         fixed-cell i c (let e = sized-count sized in omega arith) hc
-        ∙ ap₂ (λ (h : Grid) (s : List ℕ). correctedCell h s i c) weighed-is (settled .least ∙ ap (leastCostSides 2) weighed-is ∙ weighed-sides n table (sized-n sized) (few sized same) 2)
+        ∙ ap₂ (λ (h : Grid) (s : List ℕ). correctedCell h s i c) weighed-is sides-are
         ∙ weighed-cell n table (sized-n sized) (few sized same) (leastCostSides 2 (gridOf n table)) i c hi hc
 
     -- C's table
@@ -134,6 +183,14 @@ module _ {n m : ℕ} {table cells : List ℕ} (sized : SizesKept n m table) (kep
         e
         ∙ ap concat (tab-ext (fragments table) _ _ λ i hi.
         rewritten-same (recordAt table i) _ _ λ c from to. fixed-code i c hi (lt-of-lt-of-le to (sound-fits n (recordAt table i) (accepted-sound n table _ _ (kept .kept) i hi))))
+
+    -- the answer of the sides in the records that were written
+    pub table-answered : {cols records after : List ℕ} → records ≡ correctedTable n table → cols ≡ keepAll n
+        → (LetteredTable n records → m ≡ fragments records → LawfulSides 2 (gridOf n records) (marked cols) (marked sides) (nth sides) → after ≡ answer (gridOf n records) cols sides)
+        → after ≡ correctionAnswer (gridOf n table)
+    table-answered {cols} {records} {after} e all answered =
+        table-correction all (subst (λ (t : List ℕ). LetteredTable n t → m ≡ fragments t → LawfulSides 2 (gridOf n t) (marked cols) (marked sides) (nth sides) → after ≡ answer (gridOf n t) cols sides) e answered
+        (corrected-letters kept) (sym (fragments-of (correctedTable n table) (fragments table) (length-corrected n table) ∙ sized-count sized)) (sides-lawful cols))
 
 -- ---- what C returns and leaves
 

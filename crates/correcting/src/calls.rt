@@ -1,22 +1,28 @@
 // C: the calls to correct, of the least total.
 ghost use mathlib.Core.Path.{_≡_};
-ghost use Prim.Native.Nat.{_*_};
+ghost use Prim.Native.Nat.{_*_, _≤_};
 ghost use lib.ListN.{length};
 ghost use Rattle.records.specs.Outcome.{outcomeOf};
-ghost use Rattle.conflicts.specs.Choice.{keepAll};
+ghost use Rattle.below.specs.Below.{nth};
+ghost use Rattle.fields.specs.Table.{fragments};
+ghost use Rattle.conflicts.specs.Choice.{marked, keepAll};
 ghost use Rattle.conflicts.specs.Grid.{gridOf};
 ghost use Rattle.matrix.specs.Algorithm.Matrix.{matrixGrid, Matrix};
 ghost use Rattle.conflicts.specs.Corrections.{changedTotal};
-ghost use Rattle.conflicts.specs.Answer.{answerSize, correctionAnswer, correctedTable};
+ghost use Rattle.conflicts.specs.Answer.{answerSize, answer, correctionAnswer, correctedTable};
+ghost use Rattle.conflicts.specs.Minimality.{LawfulSides};
+ghost use Rattle.masks.specs.Algorithm.Masks.{LetteredTable};
+ghost use Rattle.correcting.specs.Algorithm.Settled.{Settled};
 ghost use Rattle.conflicts.specs.Services.{correctionsLeaves};
 ghost use Rattle.matrix.specs.Algorithm.Cells.{tableCells, tableWeights};
 ghost use Rattle.conflicts.specs.Served.{NoneDeep};
 ghost use Rattle.slots.specs.Algorithm.Spans.{Spanned};
 ghost use Rattle.records.specs.Algorithm.Kept.{SizesKept, RecordsKept};
 ghost use Rattle.correcting.specs.Algorithm.Stages.{CorrectionKept};
-ghost use Rattle.correcting.specs.Algorithm.Settled.{Settled};
 ghost use Rattle.correcting.specs.Meanings.{CorrectionSays};
 use corrections::least_cost_sides;
+use masks::fill_masks;
+use masks::mask_room;
 use matrix::all_kept;
 use matrix::blank_cells;
 use matrix::fill_matrix;
@@ -52,6 +58,18 @@ fn settle(
     total
 }
 
+// Writes the answer of a table's sides, from the masks of its records.
+fn answer_sides(n: usize, m: usize, table: &[u8], cols: &[u8], sides: &[u8], bytes: &mut [u8])
+    requires { ⌜ (m ≤ 128) × (n ≤ 128) × (length (now cols) ≡ n) × (length (now sides) ≡ m) × (length (now bytes) ≡ answerSize m n) ⌝ }
+    ensures { λ _. ⌜ (LetteredTable n (now (table .entry)) → m ≡ fragments (now (table .entry))
+        → LawfulSides 2 (gridOf n (now (table .entry))) (marked (now (cols .entry))) (marked (now (sides .entry))) (nth (now (sides .entry)))
+        → now (bytes .exit) ≡ answer (gridOf n (now (table .entry))) (now (cols .entry)) (now (sides .entry))) ⌝ }
+{
+    let mut masks = mask_room();
+    fill_masks(table, &mut masks);
+    fill_answer(m, n, &masks, cols, sides, bytes);
+}
+
 // Settles the sides, and writes the answer and the records after correction. The sides and the corrected cells are scratch.
 fn correct_calls(
     n: usize,
@@ -76,8 +94,8 @@ fn correct_calls(
     ensures corrected { λ _. ⌜ now (corrected .exit) ≡ correctedTable n (now (table .entry)) ⌝ }
 {
     let total = settle(n, m, table, cells, starts, ends, sides, fixed);
-    fill_answer(m, n, fixed, cols, sides, answer);
     fill_records(table, fixed, corrected);
+    answer_sides(n, m, corrected, cols, sides, answer);
     total
 }
 

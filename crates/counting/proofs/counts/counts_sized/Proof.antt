@@ -18,9 +18,10 @@ returns c =
     counts-refuses _ _ _ 11 0 (counts-length _ _ _ (start .args .m) (start .pre) (c .if1 .taken))
 
 count-table-requires : tie.Need-count-table-requires
-count-table-requires c κs =
-    ((c .before .before .before .before .before .before .before .pre, record { count = _; kept = sym (c .before .before .before .records-fault .ensures) ∙ ap outcomeOf (c .before .enum-told .given .1) }),
-     c .before .before .before .before .if1 .left)
+count-table-requires c κs = (
+  (c .before .before .before .before .before .before .before .pre, record { count = _; kept = sym (c .before .before .before .records-fault .ensures) ∙ ap outcomeOf (c .before .enum-told .given .1) }),
+  c .before .before .before .before .if1 .left,
+)
 
 returns-2 : tie.Need-returns-2
 returns-2 c =
