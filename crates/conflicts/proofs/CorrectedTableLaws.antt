@@ -1,7 +1,6 @@
 -- C's table by its bytes: the records with the corrected calls in their cells, and nothing else changed.
 -- Assumes nothing.
 use mathlib.Core.Path.{_≡_, sym, ap, ap₂, fun-ext, _∙_}
-use mathlib.Core.Logic.{_⊎_, inl, inr}
 use mathlib.Core.List.{List, [], _++_}
 use Prim.Native.Nat.{ℕ, _+_, _*_, _-_, _/_, _%_, _^_, _≤_, _<_}
 use native.Mathlib.Decide.{decLe}
@@ -14,14 +13,14 @@ use Rattle.fields.specs.Record.{littleEndian, startOf, spanOf, gradeOf, isCall,
 use Rattle.fields.specs.Grades.{weightOf}
 use Rattle.fields.specs.Table.{fragments, recordAt}
 use Rattle.fields.specs.Writing.{cellBytes}
-use Rattle.below.proofs.BelowLaws.{both, decided, isnt-isnt, not-both, if-ind, if-true, if-false, ==-eq, <?-lt, lt-<?, sum-ext, le-isnt}
+use Rattle.below.proofs.BelowLaws.{if-ind, if-true, if-false, <?-lt, lt-<?, sum-ext, le-isnt}
 use Rattle.fields.proofs.FieldLaws.{start-bytes, codeAt-in, codeAt-out}
 use Rattle.fields.proofs.ByteLaws.{cell-past, cell-small, length-cellBytes, cellByte-at, code-written}
 use Rattle.records.proofs.ExtentLaws.{call-range, no-call}
 use Rattle.below.proofs.RowLaws.{tab-ext, length-laid-out, row-laid}
 use Rattle.records.proofs.TableLaws.{fragments-of, length-whole, recordAt-row, length-recordAt, recordAt-bytes}
 use Rattle.conflicts.specs.Grid.{Grid, gridOf, withCells}
-use Rattle.conflicts.specs.Corrections.{leastCostSides, correctedCell, corrected, differs}
+use Rattle.conflicts.specs.Corrections.{leastCostSides, correctedCell, corrected}
 use Rattle.conflicts.specs.Answer.{correctedGrid, rewrittenCode, rewritten, recordsWith, correctedTable}
 use Rattle.conflicts.specs.Minimality.{OthersKept}
 use Rattle.conflicts.proofs.CorrectionLaws.{letter-call}

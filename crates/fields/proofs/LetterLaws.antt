@@ -1,6 +1,6 @@
 -- The words of a record are the letters of its cells.
 -- Assumes nothing.
-use mathlib.Core.Path.{_≡_, refl, sym, ap, ap₂, _∙_}
+use mathlib.Core.Path.{_≡_, sym, ap, ap₂, _∙_}
 use mathlib.Core.Bool.{Bool, false}
 use mathlib.Core.List.{List, [], _∷_}
 use Prim.Native.Nat.{ℕ, _+_, _*_, _/_, _%_, _^_, _≤_, _<_}
@@ -15,7 +15,7 @@ use Rattle.places.specs.Algorithm.Words.{wordOf, halfWord}
 use Rattle.places.proofs.WordLaws.{word-lt, word-ext, word-wider}
 use Rattle.places.proofs.ShiftLaws.{word-split}
 use Rattle.fields.specs.Record.{cellOf}
-use Rattle.fields.specs.Algorithm.Letters.{hasA, hasB, foursOf, lettersOf}
+use Rattle.fields.specs.Algorithm.Letters.{hasA, hasB, foursOf}
 use Rattle.fields.proofs.ByteLaws.{cell-past}
 use Rattle.fields.proofs.FieldLaws.{cell-of-byte}
 

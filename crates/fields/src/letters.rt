@@ -1,10 +1,10 @@
 // The letters of a record's cells, as words of bits. A code has a bit for A, the low one, and one for B: code 3 has both, and a hole neither.
 ghost use mathlib.Core.Path.{_≡_};
 ghost use Prim.Native.Nat.{_+_, _*_, _≤_, _<_};
-ghost use lib.ListN.{length};
 ghost use Rattle.places.specs.Algorithm.Words.{wordOf};
 ghost use Rattle.fields.specs.Record.{cellOf};
 ghost use Rattle.fields.specs.Algorithm.Letters.{hasA, hasB, foursOf, lettersOf};
+use crate::fields::byte;
 use places::Line;
 use places::Places;
 use places::with_four;
@@ -29,7 +29,7 @@ fn fours(codes: u8) -> u8
 
 // The letters of the cells of some bytes.
 fn letter_words(part: &[u8], from: usize, count: usize) -> Words
-    requires { ⌜ (length (now part) ≡ 32) × (count ≤ 16) × (from + count ≤ 24) ⌝ }
+    requires { ⌜ (count ≤ 16) × (from + count ≤ 24) ⌝ }
     ensures a { λ r. ⌜ r .a ≡ wordOf (4 * count) (λ k. hasA (cellOf (now (part .entry)) (4 * from + k))) ⌝ }
     ensures b { λ r. ⌜ r .b ≡ wordOf (4 * count) (λ k. hasB (cellOf (now (part .entry)) (4 * from + k))) ⌝ }
 {
@@ -37,7 +37,7 @@ fn letter_words(part: &[u8], from: usize, count: usize) -> Words
     let mut b = 0;
     let mut j = 0;
     while j < count {
-        let four = fours(part[8 + from + j]) as u64;
+        let four = fours(byte(part, 8 + from + j)) as u64;
         a = with_four(a, 4 * j, four % 16);
         b = with_four(b, 4 * j, four / 16);
         j += 1;
@@ -45,9 +45,8 @@ fn letter_words(part: &[u8], from: usize, count: usize) -> Words
     Words { a: a, b: b }
 }
 
-// The cells of a whole record with the bit for A, and those with the bit for B.
+// The cells of a record with the bit for A, and those with the bit for B.
 pub fn letters_of(part: &[u8]) -> Line
-    requires { ⌜ length (now part) ≡ 32 ⌝ }
     ensures { λ r. ⌜ r ≡ lettersOf (now (part .entry)) ⌝ }
 {
     let low = letter_words(part, 0, 16);

@@ -1,22 +1,20 @@
 -- The words of a matrix's columns, and the matrix that words are those of.
 -- Assumes nothing.
-use mathlib.Core.Path.{_≡_, refl, sym, ap, ap₂, _∙_}
+use mathlib.Core.Path.{_≡_, refl, ap, ap₂, _∙_}
 use mathlib.Core.Bool.{Bool, true, false}
 use mathlib.Core.List.{List}
 use Prim.Native.Nat.{ℕ, _+_, _*_, _≤_, _<_}
 use native.Mathlib.Omega.{arith}
-use Rattle.below.specs.Below.{if_then_else_, _==_, _<?_, _and_, nth}
-use Rattle.below.proofs.RowLaws.{tab-ext}
+use Rattle.below.specs.Below.{if_then_else_, _==_, _<?_, _and_}
 use Rattle.below.proofs.SearchLaws.{<?-true}
 use Rattle.conflicts.specs.Grid.{Grid}
-use Rattle.places.specs.declared.places.Places.{Places}
 use Rattle.places.specs.declared.lines.Line.{Line}
 use Rattle.places.specs.Algorithm.Words.{wordOf, halfWord}
 use Rattle.places.specs.Algorithm.Places.{placesWhere, hasPlace}
 use Rattle.places.proofs.WordLaws.{word-ext}
 use Rattle.places.proofs.PlaceLaws.{places}
 use Rattle.places.proofs.ShiftLaws.{has-where}
-use Rattle.masks.specs.Algorithm.Masks.{hasLetter, lineOf, maskWord, maskWords, lineAt, transposed, Masks, codeIn, wordsGrid}
+use Rattle.masks.specs.Algorithm.Masks.{hasLetter, lineOf, lineAt, transposed, Masks, codeIn}
 use Rattle.masks.proofs.LineLaws.{line, line-is}
 use Rattle.masks.proofs.RecordLaws.{three}
 

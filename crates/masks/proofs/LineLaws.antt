@@ -7,17 +7,14 @@ use Prim.Native.Nat.{ℕ, _+_, _*_, _/_, _%_, _≤_, _<_}
 use native.Mathlib.Omega.{arith}
 use lib.ListN.{length, set}
 use Rattle.below.specs.Below.{_==_, _and_, _or_, countBelow, nth}
-use Rattle.below.proofs.BelowLaws.{length-tab, getD-tab}
+use Rattle.below.proofs.BelowLaws.{getD-tab}
 use Rattle.below.proofs.SearchLaws.{<?-true, <?-false}
 use Rattle.below.proofs.FillLaws.{filled-four, filled-all}
-use Rattle.conflicts.specs.Choice.{keepAll}
 use Rattle.conflicts.specs.Grid.{Grid, callsConflict, conflictOn}
-use Rattle.conflicts.specs.Counts.{conflictCount}
-use Rattle.conflicts.proofs.CountLaws.{all-counted}
 use Rattle.places.specs.declared.lines.Line.{Line}
 use Rattle.places.specs.declared.places.Places.{Places}
 use Rattle.places.specs.Algorithm.Words.{halfWord}
-use Rattle.places.specs.Algorithm.Places.{anywhere, placesWhere, bothOf, eitherOf, size, conflictPlaces, agreePlaces, conflictSize}
+use Rattle.places.specs.Algorithm.Places.{placesWhere, bothOf, eitherOf, size, conflictPlaces, agreePlaces, conflictSize}
 use Rattle.masks.specs.Algorithm.Masks.{hasLetter, lineOf, maskWord, maskWords, lineAt, Masks, WordsBegun}
 use Rattle.places.proofs.WordLaws.{word-none}
 use Rattle.places.proofs.PlaceLaws.{places, where-ext, upTo, both-below, either-below, some-below, size-below}
@@ -43,10 +40,6 @@ line-none g i l = ap₂ line (none-of 1) (none-of 2)
   where
     none-of : (letter : ℕ) → places 0 0 ≡ placesWhere (hasLetter g letter i)
     none-of letter = where-none _ (λ c h. no-letter g letter i c l)
-
-pub words-length : (g : Grid) → length (maskWords g) ≡ 512
-unfolding maskWords
-words-length g = length-tab 512 _
 
 pub word-is : (g : Grid) (k letter i h : ℕ) → 1 + k / 2 % 2 ≡ letter → k / 4 ≡ i → k % 2 ≡ h → halfWord (hasLetter g letter i) h ≡ maskWord g k
 word-is g k letter i h el ei eh = rw (← el, ← ei, ← eh) refl
@@ -118,9 +111,3 @@ conflicts-where g p i j masks hi hj =
     ap (λ (q : Places). size (bothOf (placesWhere p) q)) (ap₂ conflictPlaces (line-at g i masks hi) (line-at g j masks hj) ∙ lines-conflict g i j hi hj)
     ∙ ap size (some-below (g .n) p _)
     ∙ size-below (g .n) _ (masks .narrow)
-
--- over all columns
-pub all-conflicts : (g : Grid) (i j : ℕ) {words : List ℕ} → Masks g words → i < g .m → j < g .m
-    → conflictSize (placesWhere anywhere) (lineAt words i) (lineAt words j) ≡ conflictCount g (keepAll (g .n)) i j
-unfolding anywhere _and_
-all-conflicts g i j masks hi hj = conflicts-where g anywhere i j masks hi hj ∙ sym (all-counted g i j)

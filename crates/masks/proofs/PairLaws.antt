@@ -9,14 +9,12 @@ use native.Mathlib.Omega.{arith}
 use lib.Dec.{T}
 use lib.ListN.{length, getD, set}
 use Rattle.below.specs.Below.{if_then_else_, _<?_, _and_, nth}
-use Rattle.below.proofs.BelowLaws.{left-of, length-tab, getD-tab}
+use Rattle.below.proofs.BelowLaws.{getD-tab}
 use Rattle.below.proofs.SearchLaws.{<?-true, <?-false, T-true}
 use Rattle.below.proofs.FillLaws.{filled-more, filled-all}
 use Rattle.conflicts.specs.Choice.{marked}
 use Rattle.conflicts.specs.Grid.{Grid}
 use Rattle.conflicts.specs.Counts.{conflictCount}
-use Rattle.conflicts.specs.Blocks.{linked}
-use Rattle.conflicts.proofs.CountLaws.{kept-counted}
 use Rattle.places.specs.declared.places.Places.{Places}
 use Rattle.places.specs.declared.lines.Line.{Line}
 use Rattle.places.specs.Algorithm.Places.{bothOf, size, conflictSize}
@@ -43,12 +41,6 @@ module _ (x y s : ℕ) where
   pub both-kept : (x ≡ 0 → ⊥) → (y ≡ 0 → ⊥) → s ≡ if 0 <? x and 0 <? y then s else 0
   unfolding _and_
   both-kept f g = rw (<?-true 0 x (pos-of-ne-zero f), <?-true 0 y (pos-of-ne-zero g))
-
--- a number that counts where two are kept
-kept-pos : (b : Bool) (s : ℕ) {t : Bool} → (0 <? s) ≡ t → (0 <? (if b then s else 0)) ≡ (b and t)
-unfolding _and_
-kept-pos true s e = e
-kept-pos false s e = <?-false 0 0 (omega arith)
 
 -- ---- the matrix
 
@@ -92,11 +84,6 @@ module _ (words : List ℕ) (keep : Places) (frags : List ℕ) where
   unfolding pairNumber
   number-back i j = ap₂ (λ (b : Bool) (k : ℕ). if b then k else 0) (and-comm (marked frags i) (marked frags j)) (size-comm keep (lineAt words i) (lineAt words j))
 
-  -- a number over 0 is one of kept fragments
-  pub number-marked : (i j : ℕ) → T (0 <? pairNumber words keep frags i j) → T (marked frags i)
-  unfolding pairNumber
-  number-marked i j t = left-of _ _ (left-of _ _ (subst T (kept-pos (marked frags i and marked frags j) _ refl) t))
-
   -- the number at place k
   abbrev entry : ℕ → ℕ
   entry k = pairNumber words keep frags (k / 128) (k % 128)
@@ -104,10 +91,6 @@ module _ (words : List ℕ) (keep : Places) (frags : List ℕ) where
   pub matrix-is : {matrix : List ℕ} → Numbered (pairNumber words keep frags) 16384 matrix → matrix ≡ pairMatrix words keep frags
   unfolding pairMatrix
   matrix-is {matrix} w = filled-all 16384 entry 16384 matrix (record { within = omega arith; sized = w .long; done = w .done }) (omega arith)
-
-  pub matrix-length : length (pairMatrix words keep frags) ≡ 16384
-  unfolding pairMatrix
-  matrix-length = length-tab 16384 entry
 
   pub matrix-at : (i j : ℕ) → i < 128 → j < 128 → getD (pairMatrix words keep frags) (i * 128 + j) 0 ≡ pairNumber words keep frags i j
   unfolding pairMatrix
@@ -127,8 +110,3 @@ module _ {g : Grid} {cols words : List ℕ} {keep : Places} (by : Compared g col
   pub number-kept : T (marked frags i) → T (marked frags j) → pairNumber words keep frags i j ≡ conflictCount g cols i j
   unfolding pairNumber _and_
   number-kept ki kj = rw (T-true (marked frags i) ki, T-true (marked frags j) kj) size-counts
-
-  -- a number is over 0 exactly if the two fragments are kept and conflict on a kept column
-  pub number-linked : (0 <? pairNumber words keep frags i j) ≡ linked g cols frags i j
-  unfolding pairNumber linked
-  number-linked = kept-pos (marked frags i and marked frags j) _ (ap (λ (k : ℕ). 0 <? k) size-counts ∙ kept-counted g cols i j)

@@ -1,13 +1,12 @@
 -- The matrix of a table's words: it has the removals of the table's bytes, it is gapless where the table is, and its fragments rise by start.
 -- Assumes nothing.
 use mathlib.Core.Path.{_≡_, sym, ap, ap₂, subst, _∙_}
-use mathlib.Core.Bool.{false}
 use mathlib.Core.List.{List}
 use Prim.Native.Nat.{ℕ, _+_, _*_, _/_, _%_, _≤_, _<_}
 use native.Mathlib.Decide.{decLt}
 use native.Mathlib.Omega.{arith}
 use lib.Dec.{T}
-use Rattle.below.specs.Below.{_==_, _<?_, _and_}
+use Rattle.below.specs.Below.{_and_}
 use Rattle.below.proofs.RowLaws.{tab-ext}
 use Rattle.below.proofs.SearchLaws.{<?-true, <?-false}
 use Rattle.fields.specs.Record.{gradeOf, codeAt}
@@ -15,7 +14,7 @@ use Rattle.fields.specs.Grades.{weightOf}
 use Rattle.fields.specs.Table.{fragments, recordAt, startAt, tagAt}
 use Rattle.fields.specs.Writing.{callsStart}
 use Rattle.records.specs.Algorithm.Kept.{SizesKept, RecordsKept, GaplessKept}
-use Rattle.records.proofs.AcceptedLaws.{accepted-sound, accepted-earlier, gapless-records, accepted-gapless, sized-count, sized-n, sized-m}
+use Rattle.records.proofs.AcceptedLaws.{accepted-sound, accepted-earlier, accepted-gapless, sized-count, sized-n, sized-m}
 use Rattle.records.proofs.OrderLaws.{starts-rise}
 use Rattle.records.proofs.PackLaws.{Sound, calls-same}
 use Rattle.records.proofs.SoundLaws.{sound-row-start, sound-row-small}
@@ -27,7 +26,7 @@ use Rattle.conflicts.proofs.AlikeLaws.{gapless-cells}
 use Rattle.matrix.specs.Algorithm.Matrix.{Gapless, Rising}
 use Rattle.places.specs.Algorithm.Words.{halfWord}
 use Rattle.places.proofs.WordLaws.{word-ext}
-use Rattle.masks.specs.Algorithm.Masks.{hasLetter, maskWord, maskWords, lineAt, Masks, codeIn, wordsGrid}
+use Rattle.masks.specs.Algorithm.Masks.{hasLetter, maskWords, lineAt, Masks, codeIn, wordsGrid}
 use Rattle.masks.proofs.ColumnLaws.{words-cell}
 
 module _ {n m : ℕ} {table words : List ℕ} (sized : SizesKept n m table) (kept : RecordsKept n table) (are : words ≡ maskWords (gridOf n table)) where

@@ -1,4 +1,4 @@
--- A table's cell matrix has the sides, removals, corrections and answers of the table's bytes.
+-- A table's cell matrix has the coverage and the corrections of the table's bytes.
 -- Assumes nothing.
 use mathlib.Core.Path.{_≡_, ap₂, _∙_}
 use mathlib.Core.List.{List}
@@ -13,15 +13,11 @@ use Rattle.fields.specs.Grades.{weightOf}
 use Rattle.fields.specs.Table.{fragments, recordAt}
 use Rattle.below.proofs.BelowLaws.{both, if-ind, if-true, lt-<?, length-tab, getD-tab}
 use Rattle.fields.proofs.GradeLaws.{weight-range}
-use Rattle.conflicts.specs.Grid.{Grid, gridOf, withRows, callsConflict, gapless, coverage}
+use Rattle.conflicts.specs.Grid.{Grid, gridOf, withRows, coverage}
 use Rattle.matrix.specs.Algorithm.Matrix.{matrixGrid, weightedGrid, Weights}
-use Rattle.conflicts.specs.Sides.{errorFree, firstSides}
-use Rattle.conflicts.specs.Removal.{snpKeepMarks, fragmentKeepMarks}
 use Rattle.conflicts.specs.Corrections.{cost, leastCostSides, correctedCell}
-use Rattle.conflicts.specs.Answer.{answer, correctionAnswer}
 use Rattle.matrix.specs.Algorithm.Cells.{tableCells, tableWeight, tableWeights}
-use Rattle.conflicts.proofs.SameLaws.{errorFree-conflicts, firstSides-conflicts, snp-conflicts, fragment-conflicts, answer-cells}
-use Rattle.conflicts.proofs.AlikeLaws.{coverage-cells, gapless-cells, correctedCell-alike, cost-alike, leastCostSides-alike, correctionAnswer-alike}
+use Rattle.conflicts.proofs.AlikeLaws.{coverage-cells, correctedCell-alike, cost-alike, leastCostSides-alike}
 
 module _ (n : ℕ) (table : List ℕ) (narrow : n ≤ 128) (few : fragments table ≤ 128) where
   -- the grid of the table's cell matrix
@@ -44,34 +40,6 @@ module _ (n : ℕ) (table : List ℕ) (narrow : n ≤ 128) (few : fragments tabl
       ∙ ap₂ (λ (a b : ℕ). if a <? fragments table and b <? n then codeAt (recordAt table a) b else 0) p q
       ∙ if-true (i <? fragments table and c <? n) (codeAt (recordAt table i) c) 0 (both _ _ (lt-<? i (fragments table) hi) (lt-<? c n hc))
 
-  conflicts-same : (i j c : ℕ) → i < fragments table → j < fragments table → c < n
-      → callsConflict (getD (tableCells n table) (i * 128 + c) 0) (getD (tableCells n table) (j * 128 + c) 0) ≡ callsConflict (cell i c) (cell j c)
-  conflicts-same i j c hi hj hc = ap₂ callsConflict (cells-same i c hi hc) (cells-same j c hj hc)
-
-  pub cells-errorFree : (k : ℕ) (cols frags : List ℕ) → errorFree k cellsGrid cols frags ≡ errorFree k (gridOf n table) cols frags
-  unfolding matrixGrid gridOf withRows
-  cells-errorFree = errorFree-conflicts cellsGrid cell weight conflicts-same
-
-  pub cells-firstSides : (k : ℕ) (cols frags : List ℕ) → firstSides k cellsGrid cols frags ≡ firstSides k (gridOf n table) cols frags
-  unfolding matrixGrid gridOf withRows
-  cells-firstSides = firstSides-conflicts cellsGrid cell weight conflicts-same
-
-  pub cells-answer : (cols sides : List ℕ) → answer cellsGrid cols sides ≡ answer (gridOf n table) cols sides
-  unfolding matrixGrid gridOf withRows
-  cells-answer = answer-cells cellsGrid cell weight cells-same
-
-  pub cells-snpKeepMarks : snpKeepMarks cellsGrid ≡ snpKeepMarks (gridOf n table)
-  unfolding matrixGrid gridOf withRows
-  cells-snpKeepMarks = snp-conflicts cellsGrid cell weight conflicts-same
-
-  pub cells-fragmentKeepMarks : fragmentKeepMarks cellsGrid ≡ fragmentKeepMarks (gridOf n table)
-  unfolding matrixGrid gridOf withRows
-  cells-fragmentKeepMarks = fragment-conflicts cellsGrid cell weight conflicts-same
-
-  pub cells-gapless : gapless cellsGrid ≡ gapless (gridOf n table)
-  unfolding matrixGrid gridOf withRows
-  cells-gapless = gapless-cells cellsGrid cell weight cells-same
-
   pub cells-coverage : (c : ℕ) → coverage cellsGrid c ≡ coverage (gridOf n table) c
   unfolding matrixGrid gridOf withRows
   cells-coverage = coverage-cells cellsGrid cell weight cells-same
@@ -92,10 +60,6 @@ module _ (n : ℕ) (table : List ℕ) (narrow : n ≤ 128) (few : fragments tabl
   pub weighed-sides : (k : ℕ) → leastCostSides k weighedGrid ≡ leastCostSides k (gridOf n table)
   unfolding weightedGrid gridOf withRows
   weighed-sides = leastCostSides-alike weighedGrid cell weight cells-same weights-same
-
-  pub weighed-answer : correctionAnswer weighedGrid ≡ correctionAnswer (gridOf n table)
-  unfolding weightedGrid gridOf withRows
-  weighed-answer = correctionAnswer-alike weighedGrid cell weight cells-same weights-same
 
   pub weighed-cell : (sides : List ℕ) (i c : ℕ) → i < fragments table → c < n → correctedCell weighedGrid sides i c ≡ correctedCell (gridOf n table) sides i c
   unfolding weightedGrid gridOf withRows

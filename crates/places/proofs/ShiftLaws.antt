@@ -9,7 +9,7 @@ use native.Mathlib.Omega.{arith}
 use lib.Bits.{bitAnd}
 use lib.Arith.{digits-lt}
 use lib.Pow.{pow-pos, pow-mono, pow-add, high, low, shl-exact, shl-shr, shr-lt, mod-pow-add}
-use Rattle.below.specs.Below.{bit, if_then_else_, _==_, _<?_, _≤?_, _and_, isnt}
+use Rattle.below.specs.Below.{bit, _==_, _<?_, _≤?_, _and_, isnt}
 use Rattle.below.proofs.SearchLaws.{<?-true, <?-false, ≤?-true, ≤?-false}
 use Rattle.places.specs.declared.places.Places.{Places}
 use Rattle.places.specs.Algorithm.Words.{wordOf, halfWord}

@@ -4,7 +4,7 @@ ghost use mathlib.Core.Bool.{Bool};
 ghost use Prim.Native.Nat.{ℕ, _+_, _*_, _-_, _^_, _<_, _≤_};
 ghost use Rattle.below.specs.Below.{bit, _<?_, _≤?_, _and_};
 ghost use Rattle.places.specs.Algorithm.Words.{wordOf};
-ghost use Rattle.places.specs.Algorithm.Places.{anywhere, placesWhere, bothOf, eitherOf, withoutOf, hasPlace, size, occupied};
+ghost use Rattle.places.specs.Algorithm.Places.{placesWhere, bothOf, eitherOf, withoutOf, hasPlace, size, occupied};
 
 pub struct Places {
     pub low: u64,
@@ -12,16 +12,6 @@ pub struct Places {
 }
 
 impl Places {
-    // Every place.
-    pub fn all() -> Places
-        ensures { λ r. ⌜ r ≡ placesWhere anywhere ⌝ }
-    {
-        Places {
-            low: u64::MAX,
-            high: u64::MAX,
-        }
-    }
-
     // The places in both sets.
     pub fn both(self, other: Places) -> Places
         ensures { λ r. ⌜ r ≡ bothOf self other ⌝ }

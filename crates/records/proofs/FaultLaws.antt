@@ -1,22 +1,21 @@
 -- A record's rules: 8 by a switch, what 4 says of the span, and what 6 and 7 leave of 8.
 -- Assumes nothing.
-use mathlib.Core.Path.{_≡_, refl, sym, ap, _∙_}
+use mathlib.Core.Path.{_≡_, refl}
 use mathlib.Core.Bool.{Bool, true, false}
-use mathlib.Core.List.{List, _∷_, _++_}
-use Prim.Native.Nat.{ℕ, _-_, _≤_, _<_, min}
+use mathlib.Core.List.{List}
+use Prim.Native.Nat.{ℕ, _-_, _≤_, _<_}
 use native.Mathlib.Nat.{zero-add}
 use native.Mathlib.Omega.{arith}
 use lib.Dec.{T}
-use Rattle.below.specs.Below.{if_then_else_, anyBelow, _==_, _<?_, _≤?_, _and_, _or_, isnt}
-use Rattle.fields.specs.Record.{spanOf, gradeOf, isCall, cellOf}
+use Rattle.below.specs.Below.{anyBelow, _==_, _<?_, _and_}
+use Rattle.fields.specs.Record.{spanOf, isCall, cellOf}
 use Rattle.fields.specs.Table.{recordAt, startAt, tagAt}
 use Rattle.records.specs.Outcome.{Verdict}
-use Rattle.records.specs.Rules.{rule, decide, outOfFrame, strayBits, unknownCall, openEnd, gapped, earlierRules, spanRules, recordRules, gaplessRules}
+use Rattle.records.specs.Rules.{decide, outOfFrame, unknownCall, openEnd, gapped, earlierRules, spanRules, recordRules, gaplessRules}
 use Rattle.records.specs.Algorithm.Kept.{cellRules, spanRulesOf, rulesOf}
-use Rattle.below.proofs.BelowLaws.{is-true, if-ind, T-isnt, ==-eq, fails, isnt-<?, neither, eq-==, both, or-left, or-right, anyBelow-of, lt-<?}
+use Rattle.below.proofs.BelowLaws.{fails, isnt-<?, neither, eq-==, both, or-left, or-right, anyBelow-of, lt-<?}
 use Rattle.fields.proofs.ByteLaws.{cell-small}
-use Rattle.below.proofs.SearchLaws.{false-T, <?-false}
-use Rattle.records.proofs.RuleLaws.{rule-kept, decide-append}
+use Rattle.below.proofs.SearchLaws.{false-T}
 use Rattle.records.proofs.ExtentLaws.{Extent, call-of, gap-within}
 
 -- the rules by a switch: those of the record by itself, in which 8 is broken only where the switch is on, then those that look at earlier records

@@ -1,7 +1,6 @@
 // One record by 4 to 8: its frame, and its cells, which are tested by their letters, all of them at once.
 ghost use mathlib.Core.Path.{_≡_};
 ghost use Prim.Native.Nat.{_≤_};
-ghost use lib.ListN.{length};
 ghost use Rattle.below.specs.Below.{_<?_, _and_};
 ghost use Rattle.places.specs.Algorithm.Places.{placesWhere, bothOf, withoutOf, occupied};
 ghost use Rattle.fields.specs.Record.{spanOf};
@@ -80,7 +79,7 @@ fn hole_refused(gapless: bool, calls: Places, inside: Places) -> bool
 
 // A record's cells by 5 to 7, and by 8 where it must be gapless. A hole of the span lies between two calls once 6 and 7 are kept.
 fn cells_fault(part: &[u8], gapless: bool, i: usize) -> Outcome
-    requires { ⌜ (length (now part) ≡ 32) × (spanOf (now part) ≤ 96) ⌝ }
+    requires { ⌜ spanOf (now part) ≤ 96 ⌝ }
     ensures { λ r. ⌜ outcomeOf r ≡ decide (cellRules gapless (now (part .entry)) i) (accepted 0) ⌝ }
 {
     let letters = letters_of(part);
@@ -103,7 +102,6 @@ fn cells_fault(part: &[u8], gapless: bool, i: usize) -> Outcome
 
 // A record by 4 to 7, and by 8 where it must be gapless.
 pub(crate) fn span_fault(n: usize, part: &[u8], gapless: bool, i: usize) -> Outcome
-    requires { ⌜ length (now part) ≡ 32 ⌝ }
     ensures { λ r. ⌜ outcomeOf r ≡ decide (spanRulesOf gapless n (now (part .entry)) i) (accepted 0) ⌝ }
 {
     if out_of_frame(n, part) {

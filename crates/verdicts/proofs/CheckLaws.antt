@@ -12,7 +12,7 @@ use Rattle.below.specs.Below.{if_then_else_, concat}
 use Rattle.fields.specs.Table.{fragments}
 use Rattle.records.specs.Outcome.{Verdict, accepted, refused}
 use Rattle.records.specs.Rules.{Rule, decide, sizeRules, tableRules}
-use Rattle.below.proofs.BelowLaws.{length-tab, is-true, is-false, eq-==, ne-isnt, T-isnt-isnt}
+use Rattle.below.proofs.BelowLaws.{is-true, is-false, eq-==, ne-isnt, T-isnt-isnt}
 use Rattle.records.proofs.RuleLaws.{rule-broken, rule-kept, decide-none, decide-accepted, stage-kept, stage-refused, stage-last}
 use Rattle.conflicts.specs.Choice.{keepAll}
 use Rattle.conflicts.specs.Grid.{Grid, gridOf}

@@ -51,10 +51,6 @@ codeIn line c = if hasPlace (line .a) c then 1 else if hasPlace (line .b) c then
 unfoldable pub wordsGrid : ℕ → ℕ → List ℕ → Grid
 wordsGrid m n words = record { m = m; n = n; cell = λ i c. codeIn (lineAt words i) c; weight = λ i. 1 }
 
--- the words are those of a matrix of m fragments and n columns
-abbrev pub Worded : ℕ → ℕ → List ℕ → Type 0
-Worded m n words = Masks (wordsGrid m n words) words
-
 -- the words of the lines below i are those of a matrix
 pub record WordsBegun (g : Grid) (i : ℕ) (words : List ℕ) : Type 0 where
   pub sized : length words ≡ 512

@@ -1,9 +1,7 @@
 -- The cell matrix that the services work on, 128 cells to a fragment.
 -- Assumes nothing.
-use mathlib.Core.Path.{_≡_}
 use mathlib.Core.List.{List}
-use Prim.Native.Nat.{ℕ, _/_, _%_, _≤_}
-use lib.ListN.{length}
+use Prim.Native.Nat.{ℕ, _/_, _%_}
 use Rattle.below.specs.Below.{if_then_else_, _<?_, _and_, tab}
 use Rattle.fields.specs.Record.{gradeOf, codeAt}
 use Rattle.fields.specs.Grades.{weightOf}
@@ -20,11 +18,3 @@ tableWeight table i = if i <? fragments table then weightOf (gradeOf (recordAt t
 -- the weights of a table, with room for 128
 unfoldable pub tableWeights : List ℕ → List ℕ
 tableWeights table = tab 128 (tableWeight table)
-
--- at most 128 fragments and columns, a whole matrix, and a mark for each column and fragment
-pub record MarkedMatrix (m n : ℕ) (cells keepCols keepFrags : List ℕ) : Type 0 where
-  pub few : m ≤ 128
-  pub narrow : n ≤ 128
-  pub cells-long : length cells ≡ 16384
-  pub columns : length keepCols ≡ n
-  pub fragments : length keepFrags ≡ m

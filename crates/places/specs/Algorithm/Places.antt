@@ -1,6 +1,6 @@
 -- Sets of places below 128, and what two lines of a matrix have at them.
 -- Assumes nothing.
-use mathlib.Core.Bool.{Bool, true, not}
+use mathlib.Core.Bool.{Bool, not}
 use Prim.Native.Nat.{ℕ, _+_, _-_, _/_, _%_, _^_}
 use lib.Bits.{bitAnd, bitOr}
 use lib.Count.{ones}
@@ -13,10 +13,6 @@ use Rattle.places.specs.Algorithm.Words.{halfWord}
 -- the places that pass a test
 unfoldable pub placesWhere : (ℕ → Bool) → Places
 placesWhere p = record { low = halfWord p 0; high = halfWord p 1 }
-
--- a test that every place passes
-unfoldable pub anywhere : ℕ → Bool
-anywhere c = true
 
 -- the places in both sets, and those in either
 unfoldable pub bothOf : Places → Places → Places

@@ -1,6 +1,6 @@
 -- Words of bits: a test of numbers as a number.
 -- Assumes nothing.
-use Prim.Native.Nat.{ℕ, zero, suc, _+_, _*_, _^_, _≤_, _<_}
+use Prim.Native.Nat.{ℕ, zero, suc, _+_, _*_, _^_}
 use mathlib.Core.Bool.{Bool}
 use Rattle.below.specs.Below.{bit}
 
@@ -12,9 +12,3 @@ wordOf (suc w) p = bit (p w) * 2 ^ w + wordOf w p
 -- word h of a test of the numbers below 128: of those from 64 h on
 unfoldable pub halfWord : (ℕ → Bool) → ℕ → ℕ
 halfWord p h = wordOf 64 (λ b. p (h * 64 + b))
-
--- size is how many of the 64 numbers from `start` on are below n
-pub record InWord (n start size : ℕ) : Type 0 where
-  pub small : size ≤ 64
-  pub inside : (b : ℕ) → b < size → start + b < n
-  pub outside : (b : ℕ) → size ≤ b → b < 64 → n ≤ start + b

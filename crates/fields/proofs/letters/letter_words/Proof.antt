@@ -43,8 +43,8 @@ loop-again c =
     let fours = c .before .before .fours in
     let r = a .part .now in (
       search needs,
-      four-next r hasA (a .from) (lp .j) (search needs) refl (fours-a _ (fours .ensures)) (lp .inv .1) (c .before .with-four .ensures),
-      four-next r hasB (a .from) (lp .j) (search needs) refl (fours-b _ (fours .ensures)) (lp .inv .2) (c .with-four2 .ensures),
+      four-next r hasA (a .from) (lp .j) (search needs) (c .before .before .before .byte .ensures) (fours-a _ (fours .ensures)) (lp .inv .1) (c .before .with-four .ensures),
+      four-next r hasB (a .from) (lp .j) (search needs) (c .before .before .before .byte .ensures) (fours-b _ (fours .ensures)) (lp .inv .2) (c .with-four2 .ensures),
     )
 
 returns : tie.Need-returns Inv-loop μ-loop
@@ -62,7 +62,7 @@ letter-words-spec =
     loop-holds
     (λ c. search needs)
     (λ c. search needs)
-    (λ c. search needs)
+    (λ c κs. search needs)
     (λ c κs. search needs)
     (λ c. search needs)
     (λ c. search needs)

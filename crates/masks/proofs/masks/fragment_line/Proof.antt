@@ -2,13 +2,11 @@
 -- Assumes nothing.
 use borrow.Author.Needs.{needs}
 use mathlib.Core.Path.{_≡_, ap, _∙_}
-use lib.ListN.{length}
 use denote.Ref.{now}
 use Rattle.fields.specs.Record.{startOf}
 use Rattle.fields.specs.Table.{recordAt}
 use Rattle.fields.specs.Algorithm.Letters.{lettersOf}
 use Rattle.fields.proofs.PartLaws.{part-record}
-use Rattle.records.proofs.TableLaws.{length-recordAt}
 use Rattle.masks.proofs.RecordLaws.{record-line}
 use Rattle.masks.proofs.masks.fragment_line.Statement.{statement}
 use Rattle.masks.proofs.masks.fragment_line.Tie as tie
@@ -16,9 +14,6 @@ use Rattle.masks.proofs.masks.fragment_line.Tie as tie
 -- the part is record i
 part-read : (c : tie.After-record-at) → now (c .record-at .result) ≡ recordAt (c .before .before .args .table .now) (c .before .before .args .i)
 part-read c = part-record _ (c .before .before .args .i) _ (c .record-at .ensures) (c .before .before .pre)
-
-letters-of-requires : tie.Need-letters-of-requires
-letters-of-requires c κs = ap length (part-read c) ∙ length-recordAt _ (c .before .before .args .i) (c .before .before .pre)
 
 returns : tie.Need-returns
 returns c =
@@ -28,4 +23,4 @@ returns c =
 
 pub fragment-line-spec : {M : Type 1} → statement M
 fragment-line-spec =
-    tie.close (tie.spec (λ c κs. search needs) letters-of-requires (λ c κs. search needs) (λ c. search needs) (λ c κs. search needs) (λ c κs. search needs) returns)
+    tie.close (tie.spec (λ c κs. search needs) (λ c κs. search needs) (λ c κs. search needs) (λ c. search needs) (λ c κs. search needs) (λ c κs. search needs) returns)

@@ -1,14 +1,12 @@
 use mathlib.Core.Path.{_≡_, sym, ap, _∙_}
 use mathlib.Core.List.{List}
 use Prim.Native.Nat.{ℕ}
-use lib.ListN.{length}
 use denote.Ref.{now}
 use Rattle.fields.specs.Table.{recordAt}
 use Rattle.records.specs.Outcome.{accepted, outcomeOf}
 use Rattle.records.specs.Rules.{decide}
 use Rattle.records.specs.Algorithm.Kept.{spanRulesOf}
 use Rattle.fields.proofs.PartLaws.{part-record}
-use Rattle.records.proofs.TableLaws.{length-recordAt}
 use Rattle.records.proofs.RuleLaws.{decide-accepted, decide-refused}
 use Rattle.records.proofs.FaultLaws.{switched}
 use borrow.Author.Needs.{needs}
@@ -18,9 +16,6 @@ use Rattle.records.proofs.rules.record_fault.Tie as tie
 -- the part is record i
 part-read : (c : tie.After-record-at) → now (c .record-at .result) ≡ recordAt (c .before .before .args .table .now) (c .before .before .args .i)
 part-read c = part-record _ (c .before .before .args .i) _ (c .record-at .ensures) (c .before .before .pre)
-
-span-fault-requires : tie.Need-span-fault-requires
-span-fault-requires c κs = ap length (part-read c) ∙ length-recordAt _ (c .before .before .args .i) (c .before .before .pre)
 
 -- what 4 to 8 say of record i
 span-says : (c : tie.After-span-fault)
@@ -46,4 +41,4 @@ returns-2 c =
 
 pub record-fault-spec : {M : Type 1} → statement M
 record-fault-spec =
-    tie.close (tie.spec (λ c κs. search needs) span-fault-requires (λ c. search needs) (λ c. search needs) earlier-fault-requires returns returns-2)
+    tie.close (tie.spec (λ c κs. search needs) (λ c κs. search needs) (λ c. search needs) (λ c. search needs) earlier-fault-requires returns returns-2)

@@ -1,9 +1,8 @@
-use mathlib.Core.Path.{_≡_, refl, sym, ap, _∙_}
+use mathlib.Core.Path.{_≡_, sym, ap, _∙_}
 use mathlib.Core.Bool.{Bool, false}
 use Prim.Native.Nat.{ℕ}
 use native.Mathlib.Omega.{arith}
 use Rattle.below.specs.Below.{_<?_, _and_}
-use Rattle.places.specs.declared.places.Places.{Places}
 use Rattle.places.specs.Algorithm.Places.{placesWhere}
 use Rattle.fields.specs.Record.{spanOf}
 use Rattle.fields.specs.Algorithm.Letters.{callsOf}
@@ -16,7 +15,7 @@ use Rattle.records.proofs.spans.cells_fault.Statement.{statement}
 use Rattle.records.proofs.spans.cells_fault.Tie as tie
 
 first-requires : tie.Need-first-requires
-first-requires c κs = let e = c .span .ensures in let p = c .before .before .before .before .pre .1 in omega arith
+first-requires c κs = let e = c .span .ensures in let p = c .before .before .before .before .pre in omega arith
 
 -- the calls, and the places of the span
 calls-is : (c : tie.After-either) → c .either .result ≡ callsOf (c .before .before .before .args .part .now)
@@ -29,14 +28,14 @@ stray-bits-requires : tie.Need-stray-bits-requires
 stray-bits-requires c κs = (calls-is (c .before .before), inside-is c)
 
 open-end-requires : tie.Need-open-end-requires
-open-end-requires c κs = (c .before .before .before .before .before .before .before .before .before .pre .1, calls-is (c .before .before .before .before .before .before))
+open-end-requires c κs = (c .before .before .before .before .before .before .before .before .before .pre, calls-is (c .before .before .before .before .before .before))
 
 -- 5 is kept where 6 is tested, and what the letters say of 6
 kept-5 : (c : tie.Else1) → strayBits (c .before .before .before .before .before .before .before .args .part .now) ≡ false
 kept-5 c = sym (c .before .stray-bits .ensures) ∙ c .if1 .left
 
 unknown-is : (c : tie.After-unknown-call) → c .unknown-call .result ≡ unknownCall (c .before .before .before .before .before .before .before .before .args .part .now)
-unknown-is c = c .unknown-call .ensures ∙ unknown-both _ (c .before .before .before .before .before .before .letters-of .ensures) (c .before .before .before .before .before .before .before .before .pre .1) (kept-5 (c .before))
+unknown-is c = c .unknown-call .ensures ∙ unknown-both _ (c .before .before .before .before .before .before .letters-of .ensures) (c .before .before .before .before .before .before .before .before .pre) (kept-5 (c .before))
 
 kept-6 : (c : tie.Else2) → unknownCall (c .before .before .before .before .before .before .before .before .before .args .part .now) ≡ false
 kept-6 c = sym (unknown-is (c .before)) ∙ c .if2 .left
@@ -49,7 +48,7 @@ hole-is : (c : tie.After-hole-refused) → let args = c .before .before .before 
 hole-is c =
     let start = c .before .before .before .before .before .before .before .before .before .before .before .before in
     c .hole-refused .ensures
-    ∙ ap (λ (b : Bool). start .args .gapless and b) (holes-gapped _ (calls-is (c .before .before .before .before .before .before .before .before .before)) (inside-is (c .before .before .before .before .before .before .before)) (start .pre .1) (kept-6 (c .before .before .before)) (kept-7 (c .before)))
+    ∙ ap (λ (b : Bool). start .args .gapless and b) (holes-gapped _ (calls-is (c .before .before .before .before .before .before .before .before .before)) (inside-is (c .before .before .before .before .before .before .before)) (start .pre) (kept-6 (c .before .before .before)) (kept-7 (c .before)))
 
 returns : tie.Need-returns
 unfolding cellRules

@@ -11,7 +11,7 @@ unfolding spanRulesOf
 returns c = sym (rule-broken _ _ _ (sym (c .before .out-of-frame .ensures) ∙ c .if1 .taken))
 
 cells-fault-requires : tie.Need-cells-fault-requires
-cells-fault-requires c κs = (search needs, frame-narrow _ _ (sym (c .before .out-of-frame .ensures) ∙ c .if1 .left))
+cells-fault-requires c κs = frame-narrow _ _ (sym (c .before .out-of-frame .ensures) ∙ c .if1 .left)
 
 returns-2 : tie.Need-returns-2
 unfolding spanRulesOf
