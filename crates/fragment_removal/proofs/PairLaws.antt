@@ -69,7 +69,7 @@ pub fits-here : {own : Rank} {far one rest : ℕ} → Fits own far one rest → 
 fits-here f = record { others = f .others; few = f .few; fits = f .fits; far-small = f .far-small; one-small = f .rest-small; rest-small = f .rest-small }
 
 -- equal choices
-keep-same : {a a′ b b′ : Bool} {own own′ x x′ y y′ z z′ : ℕ} → a ≡ a′ → b ≡ b′ → own ≡ own′ → x ≡ x′ → y ≡ y′ → z ≡ z′
+pub keep-same : {a a′ b b′ : Bool} {own own′ x x′ y y′ z z′ : ℕ} → a ≡ a′ → b ≡ b′ → own ≡ own′ → x ≡ x′ → y ≡ y′ → z ≡ z′
     → keepFragment a b (own + x) (own + y) z ≡ keepFragment a′ b′ (own′ + x′) (own′ + y′) z′
 keep-same ea eb eo ex ey ez = rw (ea, eb, eo, ex, ey, ez)
 
@@ -97,9 +97,6 @@ put-none v j e = record { here = e; there = λ i ne. refl }
 
 pub sweep-at : {f old now : ℕ → ℕ} {a j k : ℕ} → Sweep f old now a j → j ≡ k → Sweep f old now a k
 sweep-at {f} {old} {now} {a} s e = subst (Sweep f old now a) e s
-
-pub sweep-none-at : (f old : ℕ → ℕ) (a : ℕ) → Sweep f old old a (a + 0)
-sweep-none-at f old a = sweep-at (sweep-none f old a) (omega arith)
 
 -- ---- a row in place
 
@@ -130,9 +127,9 @@ pub record RowReads (reaches : ℕ → ℕ) (own i : ℕ) (old : ℕ → ℕ) (h
   pub moves : next ≡ rowStart (furthest reaches h i)
   pub last : far ≡ own + old (corner h (i + 1))
 
--- the states below l have the fragment at position i before them, in the row of state h
-module _ (may : ℕ → Bool) (reaches : ℕ → ℕ) (own : Rank) (i : ℕ) (old now : ℕ → ℕ) (h l : ℕ) {start next far : ℕ} (reads : RowReads reaches (value own) i old h start next far) (hi : h ≤ i) (lh : l ≤ h)
-    (row : Sweep (along (withFragment may reaches (value own) i (square old)) h) old now (rowStart h) (rowStart h + l)) where
+-- the states from d on and below l have the fragment at position i before them, in the row of state h
+module _ (may : ℕ → Bool) (reaches : ℕ → ℕ) (own : Rank) (i : ℕ) (old now : ℕ → ℕ) (d h l : ℕ) {start next far : ℕ} (reads : RowReads reaches (value own) i old h start next far) (hi : h ≤ i) (dl : d ≤ l) (lh : l ≤ h)
+    (row : Sweep (along (withFragment may reaches (value own) i (square old)) h) old now (rowStart h + d) (rowStart h + l)) where
   -- pairs of states that are not before this one are as they were
   ahead : (x y : ℕ) → y ≤ x → h ≤ x → l ≤ y → now (rowStart x + y) ≡ square old x y
   ahead x y yx hx ly = ap now (sym (corner-row x y yx)) ∙ row .rest (corner x y) (λ lo up. let c = corner-least h l x y lh hx ly in omega arith)
@@ -151,22 +148,22 @@ module _ (may : ℕ → Bool) (reaches : ℕ → ℕ) (own : Rank) (i : ℕ) (ol
       by-test false = refl
 
   -- there is room for the fragment's own weight
-  pub row-fits : FragmentRoom own h (i + 1) (square old) → Fits own far (now (next + l)) (now (start + l))
+  pub row-fits : FragmentRoom own d h (i + 1) (square old) → Fits own far (now (next + l)) (now (start + l))
   row-fits room =
       let hr = furthest-range reaches h i hi in
       record {
         others = room .others;
         few = room .few;
         fits = room .fits;
-        far-small = rw (reads .last) (own-small own (room .few) (room .small h (i + 1) (le-refl h) (omega arith) (le-refl (i + 1))));
-        one-small = rw one-weight (room .small (furthest reaches h i) l (hr .0) (hr .1) (omega arith));
-        rest-small = rw here-weight (room .small h l (le-refl h) (omega arith) (omega arith));
+        far-small = rw (reads .last) (own-small own (room .few) (room .small h (i + 1) (le-refl h) (omega arith) (omega arith) (le-refl (i + 1))));
+        one-small = rw one-weight (room .small (furthest reaches h i) l (hr .0) (hr .1) dl (omega arith));
+        rest-small = rw here-weight (room .small h l (le-refl h) (omega arith) dl (omega arith));
       }
 
   -- one place more
   pub row-more : {after : ℕ → ℕ} (a : Bool) {r : ℕ} → a ≡ may h
       → r ≡ keepFragment a (may l) (value own + now (next + l)) (if reaches l <? reaches (i + 1) then far else value own + now (start + l)) (now (start + l))
-      → Put now after (start + l) r → Sweep (along (withFragment may reaches (value own) i (square old)) h) old after (rowStart h) (rowStart h + (l + 1))
+      → Put now after (start + l) r → Sweep (along (withFragment may reaches (value own) i (square old)) h) old after (rowStart h + d) (rowStart h + (l + 1))
   row-more {after} a {r} ea er put =
       let f = withFragment may reaches (value own) i (square old) in
       let is : r ≡ f h l = er ∙ rw (ea, one-weight, two-weight, here-weight) in
@@ -176,8 +173,8 @@ module _ (may : ℕ → Bool) (reaches : ℕ → ℕ) (own : Rank) (i : ℕ) (ol
 
 -- ---- rows
 
-pub rows-none : (f : ℕ → ℕ → ℕ) (old : ℕ → ℕ) → Rows f old old 0
-rows-none f old = record { done = λ s q l k. absurd (omega arith); rest = λ j l. refl }
+pub rows-none : (f : ℕ → ℕ → ℕ) (old : ℕ → ℕ) (d : ℕ) → Rows f old old d d
+rows-none f old d = record { done = λ s q dq l k. absurd (omega arith); rest = λ j l. refl }
 
 max-swap-le : (a b c : ℕ) → max (max a b) c ≤ max (max a c) b
 max-swap-le a b c =
@@ -185,64 +182,64 @@ max-swap-le a b c =
     max-le (max-le (le-trans (le-max-left a c) ac) (le-max-right (max a c) b)) (le-trans (le-max-right a c) ac)
 
 -- the sides are alike
-keep-swap : (a b : Bool) (x y z : ℕ) → keepFragment a b x y z ≡ keepFragment b a y x z
+pub keep-swap : (a b : Bool) (x y z : ℕ) → keepFragment a b x y z ≡ keepFragment b a y x z
 keep-swap true true x y z = le-antisymm (max-swap-le z y x) (max-swap-le z x y)
 keep-swap true false x y z = refl
 keep-swap false true x y z = refl
 keep-swap false false x y z = refl
 
-module _ (may : ℕ → Bool) (reaches : ℕ → ℕ) (own i : ℕ) (old now : ℕ → ℕ) (h : ℕ) (rows : Rows (withFragment may reaches own i (square old)) old now h) where
+module _ (may : ℕ → Bool) (reaches : ℕ → ℕ) (own i : ℕ) (old now : ℕ → ℕ) (d h : ℕ) (rows : Rows (withFragment may reaches own i (square old)) old now d h) where
   -- the rows from h on are as they were
   below-rows : (s q : ℕ) → h ≤ s → square now s q ≡ square old s q
   below-rows s q hs = rows .rest (corner s q) (let c = corner-least h 0 s q zero-le hs zero-le in omega arith)
 
   -- the next row has room
-  pub rows-room : (r : Rank) → FragmentRoom r 0 (i + 1) (square old) → FragmentRoom r h (i + 1) (square now)
-  rows-room r room = record {
+  pub rows-room : (r : Rank) → d ≤ h → FragmentRoom r d d (i + 1) (square old) → FragmentRoom r d h (i + 1) (square now)
+  rows-room r dh room = record {
     others = room .others;
     few = room .few;
     fits = room .fits;
-    small = λ s q hs sn qn. rw (below-rows s q hs) (room .small s q (omega arith) sn qn);
+    small = λ s q hs sn dq qn. rw (below-rows s q hs) (room .small s q (omega arith) sn dq qn);
   }
 
   -- one row more
-  pub rows-more : {next : ℕ → ℕ} → h ≤ i → Sweep (along (withFragment may reaches own i (square now)) h) now next (rowStart h) (rowStart h + (h + 1))
-      → Rows (withFragment may reaches own i (square old)) old next (h + 1)
+  pub rows-more : {next : ℕ → ℕ} → h ≤ i → Sweep (along (withFragment may reaches own i (square now)) h) now next (rowStart h + d) (rowStart h + (h + 1))
+      → Rows (withFragment may reaches own i (square old)) old next d (h + 1)
   rows-more {next} hi s = record { done = done; rest = rest }
     where
       ends : rowStart (h + 1) ≡ rowStart h + (h + 1)
       ends = rw (add-one h) (row-next h)
 
-      made : (q : ℕ) → q ≤ h → next (rowStart h + q) ≡ withFragment may reaches own i (square old) h q
-      made q l =
+      made : (q : ℕ) → d ≤ q → q ≤ h → next (rowStart h + q) ≡ withFragment may reaches own i (square old) h q
+      made q dq l =
           let it : rowStart h + q - rowStart h ≡ q = omega arith in
           s .done (rowStart h + q) (omega arith) (omega arith) ∙ ap (withFragment may reaches own i (square now) h) it
           ∙ keep-same {a = may h} {b = may q} {own = own} refl refl refl (below-rows (furthest reaches h i) q (furthest-range reaches h i hi .0)) (below-rows h (furthest reaches q i) (le-refl h)) (below-rows h q (le-refl h))
 
-      done : (a q : ℕ) → q ≤ a → a < h + 1 → next (rowStart a + q) ≡ withFragment may reaches own i (square old) a q
-      done a q qa la = elim (ℕ-discrete a h) [
-        | yes e ↦ subst (λ (x : ℕ). next (rowStart x + q) ≡ withFragment may reaches own i (square old) x q) (sym e) (made q (omega arith))
-        | no ne ↦ s .rest (rowStart a + q) (λ lo up. let c = row-after a h (omega arith) in omega arith) ∙ rows .done a q qa (omega arith)
+      done : (a q : ℕ) → d ≤ q → q ≤ a → a < h + 1 → next (rowStart a + q) ≡ withFragment may reaches own i (square old) a q
+      done a q dq qa la = elim (ℕ-discrete a h) [
+        | yes e ↦ subst (λ (x : ℕ). next (rowStart x + q) ≡ withFragment may reaches own i (square old) x q) (sym e) (made q dq (omega arith))
+        | no ne ↦ s .rest (rowStart a + q) (λ lo up. let c = row-after a h (omega arith) in omega arith) ∙ rows .done a q dq qa (omega arith)
       ]
 
       rest : (j : ℕ) → rowStart (h + 1) ≤ j → next j ≡ old j
       rest j l = s .rest j (λ lo up. omega (arith, ends)) ∙ rows .rest j (omega (arith, ends))
 
   -- all rows: a pair is made whichever side is at which state
-  pub rows-made : (n : ℕ) → n ≤ h → Made (withFragment may reaches own i (square old)) (square now) n
+  pub rows-made : (n : ℕ) → n ≤ h → Made (withFragment may reaches own i (square old)) (square now) d n
   rows-made n nh = record { made = made }
     where
       alike : (v : ℕ → ℕ) (x y : ℕ) → square v x y ≡ square v y x
       alike v x y = ap v (corner-swap x y)
 
-      lower : (a q : ℕ) → q ≤ a → a < n → square now a q ≡ withFragment may reaches own i (square old) a q
-      lower a q qa la = ap now (corner-row a q qa) ∙ rows .done a q qa (omega arith)
+      lower : (a q : ℕ) → d ≤ q → q ≤ a → a < n → square now a q ≡ withFragment may reaches own i (square old) a q
+      lower a q dq qa la = ap now (corner-row a q qa) ∙ rows .done a q dq qa (omega arith)
 
-      made : (a q : ℕ) → a < n → q < n → square now a q ≡ withFragment may reaches own i (square old) a q
-      made a q la lq = elim (decLe q a) [
-        | yes l ↦ lower a q l la
+      made : (a q : ℕ) → d ≤ a → d ≤ q → a < n → q < n → square now a q ≡ withFragment may reaches own i (square old) a q
+      made a q da dq la lq = elim (decLe q a) [
+        | yes l ↦ lower a q dq l la
         | no l ↦
-            alike now a q ∙ lower q a (omega arith) lq
+            alike now a q ∙ lower q a da (omega arith) lq
             ∙ keep-swap (may q) (may a) (own + square old (furthest reaches q i) a) (own + square old q (furthest reaches a i)) (square old q a)
             ∙ keep-same {a = may a} {b = may q} {own = own} refl refl refl (alike old q (furthest reaches a i)) (alike old (furthest reaches q i) a) (alike old q a)
       ]
@@ -265,11 +262,11 @@ cleared-as {before} old e same =
 
 module _ (g : Grid) where
   -- no fragment yet
-  pub holds-none : (v : ℕ → ℕ → ℕ) → ((h l : ℕ) → v h l ≡ 0) → HoldsFragments g 0 v
+  pub holds-none : (d : ℕ) (v : ℕ → ℕ → ℕ) → ((h l : ℕ) → v h l ≡ 0) → HoldsFragments g 0 d v
   unfolding mostKept
-  holds-none v zeros = record { holds = λ h l hh hl. zeros h l }
+  holds-none d v zeros = record { holds = λ h l dh dl hh hl. zeros h l }
 
-  module _ (k i : ℕ) (v : ℕ → ℕ → ℕ) (k-in : k < g .m) (is : i ≡ g .m - 1 - k) (held : HoldsFragments g k v) where
+  module _ (k i d : ℕ) (v : ℕ → ℕ → ℕ) (k-in : k < g .m) (is : i ≡ g .m - 1 - k) (held : HoldsFragments g k d v) where
     opened : (h l : ℕ) → i ≡ g .m - suc k
         → withFragment (λ s. mayJoin g s i) (stateReach g) (removal i) i (mostKept g k) h l ≡ mostKept g (suc k) h l
     unfolding mostKept
@@ -286,7 +283,7 @@ module _ (g : Grid) where
         omega arith
 
     -- room for the next fragment
-    pub holds-room : g .m ≤ 128 → (own : Rank) → own .high < 2 ^ 64 → own .low < 2 ^ 64 → value own ≡ removal i → FragmentRoom own 0 (i + 1) v
+    pub holds-room : g .m ≤ 128 → (own : Rank) → own .high < 2 ^ 64 → own .low < 2 ^ 64 → value own ≡ removal i → FragmentRoom own d d (i + 1) v
     holds-room small own hh hl e =
         let others = lastSum place (g .m) k in
         let f = places-fit small in
@@ -295,7 +292,7 @@ module _ (g : Grid) where
           others = others;
           few = parts .0;
           fits = within others (parts .1) f;
-          small = λ s q lo hs hq. subst (AtMost 127 others) (sym (held .holds s q (omega arith) (omega arith))) (atMost-more (omega arith) (le-refl others) (kept-small g k s q));
+          small = λ s q lo hs dq hq. subst (AtMost 127 others) (sym (held .holds s q lo dq (omega arith) (omega arith))) (atMost-more (omega arith) (le-refl others) (kept-small g k s q));
         }
       where
         below : (p s : ℕ) {t : ℕ} → p + s < t → p < t
@@ -306,19 +303,19 @@ module _ (g : Grid) where
 
     -- one fragment more
     pub holds-more : (may : ℕ → Bool) (reaches : ℕ → ℕ) (own : ℕ) (w : ℕ → ℕ → ℕ) → ((s : ℕ) → s < i + 1 → may s ≡ mayJoin g s i)
-        → ((s : ℕ) → s < g .m + 1 → reaches s ≡ stateReach g s) → own ≡ removal i → Made (withFragment may reaches own i v) w (i + 1) → HoldsFragments g (k + 1) w
+        → ((s : ℕ) → s < g .m + 1 → reaches s ≡ stateReach g s) → own ≡ removal i → Made (withFragment may reaches own i v) w d (i + 1) → HoldsFragments g (k + 1) d w
     holds-more may reaches own w joins reach eo made = record { holds = holds }
       where
         step : (s : ℕ) → s ≤ i → furthest reaches s i ≡ furthest (stateReach g) s i
         step s l = ap₂ (λ (x y : ℕ). if x <? y then i + 1 else s) (reach s (omega arith)) (reach (i + 1) (omega arith))
 
-        holds : (h l : ℕ) → h ≤ g .m - (k + 1) → l ≤ g .m - (k + 1) → w h l ≡ mostKept g (k + 1) h l
-        holds h l hh hl =
+        holds : (h l : ℕ) → d ≤ h → d ≤ l → h ≤ g .m - (k + 1) → l ≤ g .m - (k + 1) → w h l ≡ mostKept g (k + 1) h l
+        holds h l dh dl hh hl =
             let hr = furthest-range reaches h i (omega arith) in
             let lr = furthest-range reaches l i (omega arith) in
-            made .made h l (omega arith) (omega arith)
+            made .made h l dh dl (omega arith) (omega arith)
             ∙ keep-same (joins h (omega arith)) (joins l (omega arith)) eo
-            (held .holds (furthest reaches h i) l (omega arith) (omega arith) ∙ ap (λ (x : ℕ). mostKept g k x l) (step h (omega arith)))
-            (held .holds h (furthest reaches l i) (omega arith) (omega arith) ∙ ap (mostKept g k h) (step l (omega arith)))
-            (held .holds h l (omega arith) (omega arith))
+            (held .holds (furthest reaches h i) l (omega arith) dl (omega arith) (omega arith) ∙ ap (λ (x : ℕ). mostKept g k x l) (step h (omega arith)))
+            (held .holds h (furthest reaches l i) dh (omega arith) (omega arith) (omega arith) ∙ ap (mostKept g k h) (step l (omega arith)))
+            (held .holds h l dh dl (omega arith) (omega arith))
             ∙ opened h l (omega arith) ∙ rw (add-one k)

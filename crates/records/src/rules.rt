@@ -51,7 +51,7 @@ fn record_fault(n: usize, table: &[u8], gapless: bool, i: usize) -> Outcome
     let part = record_at(table, i);
     let fault = span_fault(n, part, gapless, i);
     match fault {
-        Outcome::Refused(number, place) => Outcome::Refused(number, place),
+        Outcome::Refused(rule, at) => Outcome::Refused(rule, at),
         Outcome::Accepted(_) => earlier_fault(table, part, i),
     }
 }

@@ -22,7 +22,7 @@ suffixes-requires c κs =
     let p = c .before .before .before .before .before .before .before .before .before .before .before .pre in (
       p .0,
       record { counts-size = let z = p .2 in search needs; highs-size = search needs; lows-size = search needs },
-      holds-none _ _ (zeros-pairs _ _ (clear .ensures)),
+      holds-none _ _ _ (zeros-pairs _ _ (clear .ensures)),
     )
 
 get-requires : tie.Need-get-requires
@@ -48,7 +48,7 @@ marks c =
     let s = c .before .before .before .before .before .before .before .before .before .before .before .before .before .before .before .before .before .before .before .before in
     let a = s .args in
     rank-marks (wordsGrid (a .m) (a .n) (a .masks .now)) (s .pre .1) (s .pre .0 .rising) (s .pre .0 .few) (r .result) (r .ok .1 .1 .1 .0 .1) (r .ok .1 .1 .1 .1 .0 .1)
-    (r .ensures ∙ c .before .before .before .before .before .before .before .before .suffixes .ensures .holds 0 0 zero-le zero-le)
+    (r .ensures ∙ c .before .before .before .before .before .before .before .before .suffixes .ensures .holds 0 0 zero-le zero-le zero-le zero-le)
 
 sub-result : tie.Need-sub-result
 sub-result c = let e = marks (c .before .before .before .before .before .before .before .before .before) .1 in search needs

@@ -31,26 +31,26 @@ last : (c : tie.After-get) → let a = c .before .before .before .before .before
 last c =
     let s = c .before .before .before .before .before .before .before .before .before .before in
     let a = s .args in
-    c .get .ensures ∙ ap (at (a .counts .now) (a .highs .now) (a .lows .now)) (corner-last (a .h) (a .i) (c .before .before .before .before .row-start .ensures) (s .pre .3))
+    c .get .ensures ∙ ap (at (a .counts .now) (a .highs .now) (a .lows .now)) (corner-last (a .h) (a .i) (c .before .before .before .before .row-start .ensures) (s .pre .4))
 
 plus-requires : tie.Need-plus-requires
 plus-requires c κs =
     let get = c .get in
     let s = c .before .before .before .before .before .before .before .before .before .before in
     let a = s .args in
-    let f = s .pre .5 in
-    sum-fits (a .own) (get .result) (f .others) (f .few) (f .fits) (get .ok .1 .1 .1 .0 .1) (get .ok .1 .1 .1 .1 .0 .1) (last c) (f .small (a .h) (a .i + 1) (le-refl (a .h)) (omega arith) (le-refl (a .i + 1)))
+    let f = s .pre .6 in
+    sum-fits (a .own) (get .result) (f .others) (f .few) (f .fits) (get .ok .1 .1 .1 .0 .1) (get .ok .1 .1 .1 .1 .0 .1) (last c) (f .small (a .h) (a .i + 1) (le-refl (a .h)) (omega arith) (omega arith) (le-refl (a .i + 1)))
 
 far : (c : tie.After-plus) → let a = c .before .before .before .before .before .before .before .before .before .before .before .args in value (c .plus .result) ≡ value (a .own) + pairs (a .counts .now) (a .highs .now) (a .lows .now) (a .h) (a .i + 1)
 far c = c .plus .ensures ∙ ap (λ (x : ℕ). value (c .before .before .before .before .before .before .before .before .before .before .before .args .own) + x) (last (c .before))
 
 row-joined-requires : tie.Need-row-joined-requires
 row-joined-requires c κs =
-    let p = c .before .before .before .before .before .before .before .before .before .before .before .before .before .before .before .before .pre in (p .0, p .1, p .2, p .3, p .4, p .5, far (c .before .before .before .before .before), sym (c .before .before .before .before .is-marked .ensures) ∙ c .before .before .before .if1 .taken)
+    let p = c .before .before .before .before .before .before .before .before .before .before .before .before .before .before .before .before .pre in (p .0, p .1, p .2, p .3, p .4, p .5, p .6, far (c .before .before .before .before .before), sym (c .before .before .before .before .is-marked .ensures) ∙ c .before .before .before .if1 .taken)
 
 row-apart-requires : tie.Need-row-apart-requires
 row-apart-requires c κs =
-    let p = c .before .before .before .before .before .before .before .before .before .before .before .before .before .before .before .before .pre in (p .0, p .1, p .2, p .3, p .4, p .5, far (c .before .before .before .before .before), sym (c .before .before .before .before .is-marked .ensures) ∙ c .before .before .before .if1 .left)
+    let p = c .before .before .before .before .before .before .before .before .before .before .before .before .before .before .before .before .pre in (p .0, p .1, p .2, p .3, p .4, p .5, p .6, far (c .before .before .before .before .before), sym (c .before .before .before .before .is-marked .ensures) ∙ c .before .before .before .if1 .left)
 
 returns : tie.Need-returns
 returns c = c .before .before .before .before .before .before .row-joined .ensures

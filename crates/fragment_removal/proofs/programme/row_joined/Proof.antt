@@ -11,39 +11,40 @@ use Rattle.below.specs.Below.{nth}
 use Rattle.conflicts.specs.Choice.{marked}
 use Rattle.ranks.specs.Algorithm.Reading.{value}
 use Rattle.ranks.specs.Algorithm.Tables.{at, Sweep}
+use Rattle.ranks.proofs.TableLaws.{sweep-none}
 use Rattle.fragment_removal.specs.Algorithm.Programme.{withFragment}
 use Rattle.fragment_removal.specs.Algorithm.Pairs.{rowStart, pairs, along}
 use Rattle.fragment_removal.proofs.CornerLaws.{row-inside}
-use Rattle.fragment_removal.proofs.PairLaws.{RowReads, row-fits, row-more, furthest-range, sweep-none-at, sweep-at}
+use Rattle.fragment_removal.proofs.PairLaws.{RowReads, row-fits, row-more, furthest-range, sweep-at}
 use Rattle.fragment_removal.proofs.programme.row_joined.Statement.{statement}
 use Rattle.fragment_removal.proofs.programme.row_joined.Tie as tie
 
 abbrev Inv-loop : tie.InvT-loop
-Inv-loop counts₀ highs₀ lows₀ agrees reaches own far i h one start next l₀ counts highs lows l =
-    (l ≤ h + 1) × (length counts ≡ length counts₀) × (length highs ≡ length highs₀) × (length lows ≡ length lows₀)
-    × Sweep (along (withFragment (marked agrees) (nth reaches) (value own) i (pairs counts₀ highs₀ lows₀)) h) (at counts₀ highs₀ lows₀) (at counts highs lows) (rowStart h) (rowStart h + l)
+Inv-loop counts₀ highs₀ lows₀ agrees reaches own far i d h one start next l₀ counts highs lows l =
+    (d ≤ l) × (l ≤ h + 1) × (length counts ≡ length counts₀) × (length highs ≡ length highs₀) × (length lows ≡ length lows₀)
+    × Sweep (along (withFragment (marked agrees) (nth reaches) (value own) i (pairs counts₀ highs₀ lows₀)) h) (at counts₀ highs₀ lows₀) (at counts highs lows) (rowStart h + d) (rowStart h + l)
 
 abbrev μ-loop : tie.MeasureT-loop
-μ-loop counts₀ highs₀ lows₀ agrees reaches own far i h one start next l₀ counts highs lows l = h + 1 - l
+μ-loop counts₀ highs₀ lows₀ agrees reaches own far i d h one start next l₀ counts highs lows l = h + 1 - l
 
 -- the state that h moves to
 moved : (c : tie.After-furthest-of Inv-loop μ-loop) → (c .before .before .before .before .before .before .args .h ≤ c .furthest-of .result) × (c .furthest-of .result ≤ c .before .before .before .before .before .before .args .i + 1)
 moved c =
     let s = c .before .before .before .before .before .before in
-    let a = s .args in subst (λ (x : ℕ). (a .h ≤ x) × (x ≤ a .i + 1)) (sym (c .furthest-of .ensures)) (furthest-range (nth (a .reaches .now)) (a .h) (a .i) (s .pre .3))
+    let a = s .args in subst (λ (x : ℕ). (a .h ≤ x) × (x ≤ a .i + 1)) (sym (c .furthest-of .ensures)) (furthest-range (nth (a .reaches .now)) (a .h) (a .i) (s .pre .4))
 
 -- the places of a pair, and of what it moves to, are in the table
 inside : (c : tie.After-row-start2 Inv-loop μ-loop) (l : ℕ) → l ≤ c .before .before .before .before .before .before .before .before .args .h → (c .before .row-start .result + l < 8385) × (c .row-start2 .result + l < 8385)
 inside c l lh =
     let s = c .before .before .before .before .before .before .before .before in
     let one = moved (c .before .before) in
-    (row-inside (s .args .h) l (c .before .row-start .ensures) lh (let i = s .pre .3 in omega arith), row-inside (c .before .before .furthest-of .result) l (c .row-start2 .ensures) (le-trans lh (one .0)) (omega arith))
+    (row-inside (s .args .h) l (c .before .row-start .ensures) lh (let i = s .pre .4 in omega arith), row-inside (c .before .before .furthest-of .result) l (c .row-start2 .ensures) (le-trans lh (one .0)) (omega arith))
 
 row-start-requires-2 : tie.Need-row-start-requires-2 Inv-loop μ-loop
 row-start-requires-2 c κs = let one = moved (c .before) in search needs
 
 loop-holds : tie.Need-loop-holds Inv-loop μ-loop
-loop-holds c = (search needs, refl, refl, refl, sweep-none-at _ _ _)
+loop-holds c = (search needs, search needs, refl, refl, refl, sweep-none _ _ _)
 
 add-j : tie.Need-add-j Inv-loop μ-loop
 add-j c = let k = inside (c .before .before) (c .before .loop .l) (omega arith) in search needs
@@ -54,7 +55,7 @@ add-k c = let k = inside (c .before .before) (c .before .loop .l) (omega arith) 
 reads : (c : tie.After-row-start2 Inv-loop μ-loop) →
     let a = c .before .before .before .before .before .before .before .before .args in
     RowReads (nth (a .reaches .now)) (value (a .own)) (a .i) (at (a .counts .now) (a .highs .now) (a .lows .now)) (a .h) (c .before .row-start .result) (c .row-start2 .result) (value (a .far))
-reads c = record { begins = c .before .row-start .ensures; moves = c .row-start2 .ensures ∙ ap rowStart (c .before .before .furthest-of .ensures); last = c .before .before .before .before .before .before .before .before .pre .6 }
+reads c = record { begins = c .before .row-start .ensures; moves = c .row-start2 .ensures ∙ ap rowStart (c .before .before .furthest-of .ensures); last = c .before .before .before .before .before .before .before .before .pre .7 }
 
 weight-at-requires : tie.Need-weight-at-requires Inv-loop μ-loop
 weight-at-requires c κs =
@@ -69,8 +70,8 @@ weight-at-requires c κs =
       p .1,
       p .2,
       search needs,
-      p .4,
-      row-fits (marked (a .agrees .now)) (nth (a .reaches .now)) (a .own) (a .i) (at (a .counts .now) (a .highs .now) (a .lows .now)) (at (l .counts) (l .highs) (l .lows)) (a .h) (l .l) (reads (c .before .before .before .before .before)) (p .3) lh (l .inv .4) (p .5),
+      p .5,
+      row-fits (marked (a .agrees .now)) (nth (a .reaches .now)) (a .own) (a .i) (at (a .counts .now) (a .highs .now) (a .lows .now)) (at (l .counts) (l .highs) (l .lows)) (a .d) (a .h) (l .l) (reads (c .before .before .before .before .before)) (p .4) (l .inv .0) lh (l .inv .5) (p .6),
     )
 
 put-requires : tie.Need-put-requires Inv-loop μ-loop
@@ -97,14 +98,15 @@ loop-again c =
       search needs,
       search needs,
       search needs,
-      row-more (marked (a .agrees .now)) (nth (a .reaches .now)) (a .own) (a .i) (at (a .counts .now) (a .highs .now) (a .lows .now)) (at (l .counts) (l .highs) (l .lows)) (a .h) (l .l) (reads (c .before .before .before .before .before .before .before .before .before .before .before .before .before .before .before .before)) (s .pre .3) lh (l .inv .4) true (sym (s .pre .7)) (weight-at .ensures .0) (put .ensures .1),
+      search needs,
+      row-more (marked (a .agrees .now)) (nth (a .reaches .now)) (a .own) (a .i) (at (a .counts .now) (a .highs .now) (a .lows .now)) (at (l .counts) (l .highs) (l .lows)) (a .d) (a .h) (l .l) (reads (c .before .before .before .before .before .before .before .before .before .before .before .before .before .before .before .before)) (s .pre .4) (l .inv .0) lh (l .inv .5) true (sym (s .pre .8)) (weight-at .ensures .0) (put .ensures .1),
     )
 
 returns : tie.Need-returns Inv-loop μ-loop
 returns c =
     let l = c .before .loop in
     let a = c .before .before .before .before .before .before .before .before .before .before .args in
-    sweep-at (l .inv .4) (let e : rowStart (a .h) + l .l ≡ rowStart (a .h) + (a .h + 1) = omega arith in e)
+    sweep-at (l .inv .5) (let e : rowStart (a .h) + l .l ≡ rowStart (a .h) + (a .h + 1) = omega arith in e)
 
 pub row-joined-spec : {M : Type 1} → statement M
 row-joined-spec =

@@ -1,40 +1,53 @@
--- `letters::fill_corrected` meets its contract. The invariant: the places passed hold their cells.
+-- `letters::fill_corrected` meets its contract. The invariant: the rows passed hold their cells.
 -- Assumes nothing.
 use borrow.Author.Needs.{needs}
-use Prim.Native.Nat.{_-_}
-use Rattle.below.proofs.FillLaws.{Filled, filled-none, filled-more, filled-all}
+use borrow.Rule.Slice.PartMut.{putMid, same-len-mid, mid-len}
+use mathlib.Core.Path.{_≡_, subst, _∙_}
+use Prim.Native.Nat.{ℕ, _+_, _*_, _-_}
+use native.Mathlib.Nat.{add-sub-cancel-left}
+use native.Mathlib.Omega.{arith}
+use Rattle.below.proofs.FillLaws.{Filled, filled-none, filled-part, filled-all}
 use Rattle.rewriting.specs.Algorithm.Letters.{letteredAt}
 use Rattle.rewriting.proofs.letters.fill_corrected.Statement.{statement}
 use Rattle.rewriting.proofs.letters.fill_corrected.Tie as tie
 
 abbrev Inv-loop : tie.InvT-loop
-Inv-loop m n cells sides first second corrected₀ k₀ corrected k = Filled 16384 (letteredAt m n cells sides first second) k corrected
+Inv-loop m n cells sides first second corrected₀ i₀ corrected i = Filled 16384 (letteredAt m n cells sides first second) (i * 128) corrected
 
 abbrev μ-loop : tie.MeasureT-loop
-μ-loop m n cells sides first second corrected₀ k₀ corrected k = 16384 - k
+μ-loop m n cells sides first second corrected₀ i₀ corrected i = 128 - i
 
 loop-holds : tie.Need-loop-holds Inv-loop μ-loop
-loop-holds c =
-    let start = c .before .before .before .before .before in
-    filled-none 16384 _ _ (start .pre .4)
+loop-holds c = filled-none 16384 _ _ (c .before .before .before .before .before .pre .4)
 
-corrected-at-requires : tie.Need-corrected-at-requires Inv-loop μ-loop
-corrected-at-requires c κs =
-    let p = c .before .before .before .before .before .before .before .pre in (p .0, p .1, p .2, p .3, c .loop-test .taken)
+part-fill-row-end : tie.Need-part-fill-row-end Inv-loop μ-loop
+part-fill-row-end c = let e = c .before .loop .inv .sized in omega arith
 
-slice-write-corrected : tie.Need-slice-write-corrected Inv-loop μ-loop
-slice-write-corrected c = let e = c .before .before .loop .inv .sized in search needs
+fill-row-requires : tie.Need-fill-row-requires Inv-loop μ-loop
+fill-row-requires c κs =
+    let p = c .before .before .before .before .before .before .before .before .pre in
+    let l = c .before .before .loop in
+    let s = l .inv .sized in
+    let lt = c .before .loop-test .taken in
+    let from = l .i * 128 in
+    (p .0 .size, p .1, p .2, p .3, lt, mid-len from (from + 128) (l .corrected) (omega arith) ∙ add-sub-cancel-left from 128)
 
 loop-again : tie.Need-loop-again Inv-loop μ-loop
 loop-again c =
-    let loop = c .before .before .loop in
-    filled-more 16384 _ (loop .k) (loop .corrected) (c .corrected-at .result) (loop .inv) (c .before .loop-test .taken) (c .corrected-at .ensures)
+    let w = c .before .before .fill-row in
+    let l = c .before .before .before .before .before .loop in
+    let a = c .before .before .before .before .before .before .before .before .before .before .before .args in
+    let lt = c .before .before .before .before .loop-test .taken in
+    let from = l .i * 128 in
+    let e : from + 128 ≡ (l .i + 1) * 128 = omega arith in
+    subst (λ (k : ℕ). Filled 16384 (letteredAt (a .m) (a .n) (a .cells .now) (a .sides .now) (a .first .now) (a .second .now)) k (putMid from (from + 128 - from) (l .corrected) (w .last .1 .1 .1 .1 .1 .1 .1 .0))) e
+    (filled-part 16384 _ from 128 (l .corrected) (w .last .1 .1 .1 .1 .1 .1 .1 .0) (l .inv) (omega arith) (same-len-mid from (from + 128 - from) (l .corrected) (w .last .1 .1 .1 .1 .1 .1 .1 .0) (w .kept .1 .1 .1 .1 .1 .1 .1 .0)) (w .ensures))
 
 same-length : tie.Need-same-length Inv-loop μ-loop
 same-length c = let e = c .before .loop .inv .sized in search needs
 
 returns : tie.Need-returns Inv-loop μ-loop
-returns c = filled-all 16384 _ (c .before .loop .k) (c .before .loop .corrected) (c .before .loop .inv) (c .loop-test .left)
+returns c = let past = c .loop-test .left in filled-all 16384 _ (c .before .loop .i * 128) (c .before .loop .corrected) (c .before .loop .inv) (omega arith)
 
 pub fill-corrected-spec : {M : Type 1} → statement M
 fill-corrected-spec =
@@ -43,8 +56,12 @@ fill-corrected-spec =
     Inv-loop
     μ-loop
     loop-holds
-    corrected-at-requires
-    slice-write-corrected
+    (λ c. search needs)
+    (λ c. search needs)
+    (λ c. search needs)
+    (λ c. search needs)
+    part-fill-row-end
+    fill-row-requires
     (λ c. search needs)
     (λ c. search needs)
     loop-again
