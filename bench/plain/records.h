@@ -116,12 +116,6 @@ static outcome table_fault(size_t n, const uint8_t *table, size_t length) {
     return sizes.number != 0 ? sizes : records_fault(n, table, sizes.value, false);
 }
 
-// The same for S and F, whose programmes need gapless records.
-static outcome gapless_fault(size_t n, const uint8_t *table, size_t length) {
-    outcome sizes = size_fault(n, length);
-    return sizes.number != 0 ? sizes : records_fault(n, table, sizes.value, true);
-}
-
 // The cells of a table's records in rows of a given width, holes elsewhere.
 static void fill_cells(const uint8_t *table, size_t m, size_t width, uint8_t *cells) {
     memset(cells, HOLE, m * width);

@@ -1,6 +1,7 @@
 // The services as one table of functions, the only name that is visible outside: BUILD, which the compiler's command line gives,
 // so that several builds link into one program and no call is inlined into the loop that times it.
-// What compares fragments and columns (phasing.h, snps.h, fragments.h, counts.h) is of loops or of masks, by the include path.
+// What compares fragments and columns (corrections.h, counting.h, removals.h) is of loops or of masks, by the include path: the loops stay as they are,
+// a measure of before and after, and the masks go the library's way.
 #include "corrections.h"
 #include "counting.h"
 #include "packing.h"

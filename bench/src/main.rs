@@ -1,4 +1,4 @@
-//! Compares the proved library with C of the same algorithms, by loops over cells and by masks: `bench/run`.
+//! Compares the proved library with C, by loops over cells and of the same algorithms by masks: `bench/run`.
 
 mod agree;
 mod buffers;

@@ -1,47 +1,51 @@
-// The letters of a table as bits, and on how many columns two fragments conflict by them.
+// The letters of a table as bits, from the bytes of its records: two fragments, and two columns, are compared by a few operations on words.
 #ifndef MASKS_H
 #define MASKS_H
 #include "records.h"
 
-enum { HALF = 64, WORDS = 4 };
+enum { HALF = 64 };
 
-// Four words to a fragment, or to a column: word 2h + letter - 1 has the cells from 64h on that are the letter, the first in the lowest bit.
-// Of the columns that are kept, two words.
+// Where a line has A, and where it has B: a record at its cells, a fragment at the columns, a column in the fragments.
+// Of 128 places, in two words, the first is the lowest bit.
 typedef struct {
-    uint64_t words[WORDS * MOST], keep[2];
-} masks;
+    uint64_t a[2], b[2];
+} line;
 
-// The words of both letters, which are the two bits of a code, for at most 64 cells that are so many bytes apart.
-static inline void fill_half(size_t length, const uint8_t *cells, size_t step, uint64_t *words) {
+// The two words as one, to be shifted.
+typedef unsigned __int128 places;
+static inline places joined(const uint64_t *words) { return (places)words[1] << HALF | words[0]; }
+
+// By the half of a byte, two cells: the bits for A, and 16 times those for B.
+static const uint8_t TWOS[16] = {0, 1, 16, 17, 2, 3, 18, 19, 32, 33, 48, 49, 34, 35, 50, 51};
+
+// The letters of some bytes of cells, four to a byte: a half of a line. A code's low bit is for A, and its high bit for B.
+static inline void fill_half(const uint8_t *bytes, size_t count, line *x, size_t h) {
     uint64_t a = 0, b = 0;
-    for (size_t k = length; k-- > 0;) {
-        uint8_t code = cells[k * step];
-        a = a << 1 | (code & A);
-        b = b << 1 | code >> 1;
+    for (size_t j = count; j-- > 0;) {
+        uint64_t four = TWOS[bytes[j] % 16] + 4 * TWOS[bytes[j] / 16];
+        a = a << 4 | four % 16;
+        b = b << 4 | four / 16;
     }
-    words[0] = a;
-    words[1] = b;
+    x->a[h] = a;
+    x->b[h] = b;
 }
 
-static inline void fill_words(size_t length, const uint8_t *cells, size_t step, uint64_t *words) {
-    size_t low = length < HALF ? length : HALF;
-    fill_half(low, cells, step, words);
-    fill_half(length - low, cells + HALF * step, step, words + 2);
+static inline line letters_of(const uint8_t *record) {
+    line x;
+    fill_half(record + 8, 16, &x, 0);
+    fill_half(record + 24, 8, &x, 1);
+    return x;
 }
 
-static void fill_fragments(size_t m, size_t n, const uint8_t *cells, uint64_t *words) {
-    for (size_t i = 0; i < m; i++) fill_words(n, cells + i * MOST, 1, words + WORDS * i);
+static void fill_lines(const uint8_t *table, size_t m, line *lines) {
+    for (size_t i = 0; i < m; i++) {
+        line x = letters_of(table + RECORD * i);
+        size_t start = start_of(table + RECORD * i);
+        places a = joined(x.a) << start, b = joined(x.b) << start;
+        lines[i] = (line){{a, a >> HALF}, {b, b >> HALF}};
+    }
 }
 
-static void fill_columns(size_t m, size_t n, const uint8_t *cells, uint64_t *words) {
-    for (size_t c = 0; c < n; c++) fill_words(m, cells + c, MOST, words + WORDS * c);
-}
-
-// Where one half has A and the other B.
-static inline uint64_t unlike(const uint64_t *x, const uint64_t *y) { return (x[0] & y[1]) | (x[1] & y[0]); }
-
-// On how many kept columns two fragments conflict.
-static inline uint8_t conflicts(const uint64_t *x, const uint64_t *y, const uint64_t *keep) {
-    return __builtin_popcountll(keep[0] & unlike(x, y)) + __builtin_popcountll(keep[1] & unlike(x + 2, y + 2));
-}
+// Where one line has A and the other B, in a half.
+static inline uint64_t unlike(const line *x, const line *y, size_t h) { return (x->a[h] & y->b[h]) | (x->b[h] & y->a[h]); }
 #endif

@@ -1,7 +1,6 @@
-// The corrections of least total weight: the elimination over columns that at most 8 fragments cover.
-#ifndef CORRECTIONS_H
-#define CORRECTIONS_H
-#include "phasing.h"
+// The sides of least total weight, by the elimination over columns that at most 8 fragments cover, and the corrections that they ask for.
+#ifndef ELIMINATION_H
+#define ELIMINATION_H
 #include "ranks.h"
 
 enum { SLOTS = 8, MASKS = 1 << SLOTS };
@@ -143,25 +142,5 @@ static void rewrite(const uint8_t *table, size_t m, const uint8_t *cells, uint8_
             record[8 + k / 4] = (record[8 + k / 4] & ~(3u << shift)) | row[k] << shift;
         }
     }
-}
-
-static outcome least_corrections(size_t n, const uint8_t *table, size_t length, uint16_t *work, size_t work_length, uint8_t *answer, uint8_t *corrected) {
-    outcome rest = table_fault(n, table, length);
-    if (rest.number != 0) return rest;
-    size_t m = rest.value, total = 0;
-    uint8_t cells[MATRIX], weights[MOST], cols[MOST], sides[MOST] = {0};
-    spans s;
-    memset(cols, 1, MOST);
-    fill_cells(table, m, MOST, cells);
-    fill_weights(table, m, weights);
-    fill_spans(m, n, cells, &s);
-    size_t deep = first_deep(m, n, &s);
-    if (deep < n) return refused(12, deep);
-    least_cost_sides(m, n, cells, weights, &s, sides);
-    for (size_t c = 0; c < n; c++) total += correct(m, cells, weights, sides, 1, c) + correct(m, cells, weights, sides, 2, c);
-    fill_answer(m, n, cells, cols, sides, answer);
-    rewrite(table, m, cells, corrected);
-    memset(work, 0, work_length * sizeof *work);
-    return accepted(total);
 }
 #endif

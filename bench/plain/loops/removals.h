@@ -5,6 +5,12 @@
 #include "phasing.h"
 #include "snps.h"
 
+// The rules of a table for S and F, whose programmes need gapless records.
+static outcome gapless_fault(size_t n, const uint8_t *table, size_t length) {
+    outcome sizes = size_fault(n, length);
+    return sizes.number != 0 ? sizes : records_fault(n, table, sizes.value, true);
+}
+
 static outcome check(size_t n, const uint8_t *table, size_t length, uint8_t *answer) {
     outcome rest = table_fault(n, table, length);
     if (rest.number != 0) return rest;
