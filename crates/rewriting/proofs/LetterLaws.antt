@@ -12,7 +12,7 @@ use lib.ListN.{length, getD, set, replicate, List·getD-eq-default, length-repli
 use lib.Seq.{getD-set-other}
 use Rattle.below.specs.Below.{if_then_else_, sumBelow, tab, _==_, _<?_, _and_, isnt, nth}
 use Rattle.fields.specs.Record.{isCall}
-use Rattle.below.proofs.BelowLaws.{both, right-of, if-ind, if-true, if-false, is-false, isnt-T, T-isnt, same-test, left-of, ==-eq, eq-==, <?-lt, lt-<?, length-tab, getD-tab}
+use Rattle.below.proofs.BelowLaws.{both, right-of, if-ind, if-true, is-false, isnt-T, T-isnt, same-test, left-of, ==-eq, eq-==, <?-lt, lt-<?, length-tab, getD-tab}
 use Rattle.below.proofs.FillLaws.{Filled, filled-none, filled-more}
 use Rattle.below.proofs.SearchLaws.{<?-true, <?-false}
 use Rattle.below.proofs.RowLaws.{tab-ext}

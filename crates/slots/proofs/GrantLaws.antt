@@ -1,17 +1,17 @@
 -- Slots are granted turn by turn.
 -- Assumes nothing.
 use mathlib.Core.Path.{_≡_, refl, sym, ap, ap₂, subst, _∙_}
-use mathlib.Core.Bool.{Bool, true, false, not}
+use mathlib.Core.Bool.{Bool, true, false}
 use mathlib.Core.List.{List}
 use Prim.Native.Nat.{ℕ, zero, suc, _+_, _*_, _≤_, _<_}
 use native.Mathlib.Decide.{ℕ-discrete}
 use native.Mathlib.Omega.{arith}
 use lib.Dec.{T}
-use lib.ListN.{length, getD, set, replicate, length-set}
+use lib.ListN.{length, getD, set, replicate, length-set, length-replicate}
 use lib.Seq.{getD-set-same, getD-set-other}
-use Rattle.below.specs.Below.{_==_, _<?_, _≤?_, _and_, isnt, countBelow, firstBelow, nth}
+use Rattle.below.specs.Below.{_==_, _<?_, _≤?_, _and_, _or_, isnt, anyBelow, countBelow, firstBelow, nth}
 use Rattle.below.proofs.BelowLaws.{any-ext}
-use Rattle.below.proofs.SearchLaws.{<?-true, <?-false, ≤?-true, ≤?-false}
+use Rattle.below.proofs.SearchLaws.{==-true, ==-false, <?-true, <?-false, ≤?-true, ≤?-false, any-more}
 use Rattle.conflicts.specs.Grid.{Grid, stretchCovers, coverage}
 use Rattle.matrix.specs.Algorithm.Matrix.{matrixGrid, weightedGrid}
 use Rattle.conflicts.specs.Served.{NoneDeep}
@@ -21,7 +21,7 @@ use Rattle.events.specs.Algorithm.Slots.{turnOf, taken, used, freeSlot, Given}
 use Rattle.events.proofs.LeastLaws.{value-same, value-other}
 use Rattle.events.proofs.FreeLaws.{free-below, free-apart, given-none, given-skip, given-more, given-next, given-apart}
 use Rattle.slots.specs.Algorithm.Columns.{firstColumn, endColumn, covers}
-use Rattle.slots.specs.Algorithm.Spans.{hitSlot, usedBy, freeBy, Spans, Spanned, Granted, Slotted}
+use Rattle.slots.specs.Algorithm.Spans.{enteredBy, hitSlot, usedBy, freeBy, Spans, Marks, Spanned, Granted, Slotted}
 use Rattle.slots.proofs.CoverLaws.{covers-of, grid-starts, start-le, coverage-is}
 
 -- ---- lists
@@ -40,39 +40,84 @@ unfolding firstBelow
 first-same zero p q h = refl
 first-same (suc n) p q h = rw (first-same n p q (λ c l. h c (omega arith)), h n (omega arith))
 
--- ---- the test of one fragment and slot
+or-false : (b : Bool) → (b or false) ≡ b
+unfolding _or_
+or-false true = refl
+or-false false = refl
 
-pub free-yes : {r u : Bool} → r ≡ u → not r ≡ true → isnt u ≡ true
-unfolding isnt
-free-yes e t = ap not (sym e) ∙ t
+or-true : (b : Bool) → isnt (b or true) ≡ false
+unfolding _or_ isnt
+or-true true = refl
+or-true false = refl
 
-pub free-no : {r u : Bool} → r ≡ u → not r ≡ false → isnt u ≡ false
-unfolding isnt
-free-no e t = ap not (sym e) ∙ t
+-- ---- the marks of the slots in use
 
-module _ (s e x k c turn b : ℕ) where
-  pub hit-slot : s ≤ c → c < e → s * 256 + x < turn → (k == b) ≡ hitSlot s e x k c turn b
-  unfolding hitSlot _and_
-  hit-slot p q r = rw (≤?-true s c p, <?-true c e q, <?-true (s * 256 + x) turn r)
+module _ (s e x c turn : ℕ) where
+  pub begun : s ≤ c → c < e → (s * 256 + x <? turn) ≡ enteredBy s e x c turn
+  unfolding enteredBy _and_
+  begun p q = rw (≤?-true s c p, <?-true c e q)
 
-  pub late : s ≤ c → c < e → turn ≤ s * 256 + x → false ≡ hitSlot s e x k c turn b
-  unfolding hitSlot _and_
-  late p q r = rw (≤?-true s c p, <?-true c e q, <?-false (s * 256 + x) turn r)
-
-  pub ended : s ≤ c → e ≤ c → false ≡ hitSlot s e x k c turn b
-  unfolding hitSlot _and_
+  pub ended : s ≤ c → e ≤ c → false ≡ enteredBy s e x c turn
+  unfolding enteredBy _and_
   ended p q = rw (≤?-true s c p, <?-false c e q)
 
-  pub not-begun : c < s → false ≡ hitSlot s e x k c turn b
-  unfolding hitSlot _and_
+  pub not-begun : c < s → false ≡ enteredBy s e x c turn
+  unfolding enteredBy _and_
   not-begun p = rw (≤?-false s c p)
+
+-- what a turn of the loop asks, for the fragments up to its own
+pub spans-first : {m : ℕ} {starts ends slots : List ℕ} (x : ℕ) → x < m → Spans m starts ends slots → Spans (x + 1) starts ends slots
+spans-first x lt sp =
+    let few = sp .few in
+    record { few = omega arith; starts-size = sp .starts-size; ends-size = sp .ends-size; slots-size = sp .slots-size; low = λ y l. sp .low y (omega arith); slots-low = sp .slots-low }
+
+module _ (starts ends slots : List ℕ) (c turn : ℕ) where
+  pub marks-none : Marks 0 starts ends slots c turn (replicate 8 0)
+  unfolding usedBy anyBelow isnt
+  marks-none = record { size = length-replicate {A = ℕ} 8 0; free = λ b h. ==-true _ 0 (zeros-at 8 b) }
+
+  module _ (x : ℕ) (marks : List ℕ) (h : Marks x starts ends slots c turn marks) where
+    abbrev entered-x : Bool
+    entered-x = enteredBy (getD starts x 0) (getD ends x 0) x c turn
+
+    used-more : (b : ℕ) → usedBy (x + 1) starts ends slots c turn b ≡ (usedBy x starts ends slots c turn b or (entered-x and getD slots x 0 == b))
+    unfolding usedBy hitSlot
+    used-more b = any-more _ x
+
+    pub marks-pass : entered-x ≡ false → Marks (x + 1) starts ends slots c turn marks
+    unfolding _and_
+    marks-pass out = record { size = h .size; free = λ b lt. h .free b lt ∙ ap isnt (sym (used-more b ∙ rw out (or-false _))) }
+
+    pub marks-more : entered-x ≡ true → getD slots x 0 < 8 → Marks (x + 1) starts ends slots c turn (set marks (getD slots x 0) 1)
+    unfolding _and_
+    marks-more in-use low =
+        let k = getD slots x 0 in
+        let long = h .size in
+        record {
+          size = length-set marks k 1 ∙ h .size;
+          free = λ b lt. elim (ℕ-discrete b k) [
+            | yes e ↦
+                ap (λ (y : ℕ). getD (set marks k 1) y 0 == 0) e
+                ∙ ap (λ (y : ℕ). y == 0) (getD-set-same marks k 1 0 (omega arith))
+                ∙ ==-false 1 0 (λ q. omega arith)
+                ∙ sym (ap isnt (used-more b) ∙ rw (in-use, ==-true k b (sym e)) (or-true _))
+            | no ne ↦
+                ap (λ (y : ℕ). y == 0) (getD-set-other marks k b 1 0 ne)
+                ∙ h .free b lt
+                ∙ ap isnt (sym (used-more b ∙ rw (in-use, ==-false k b (λ q. ne (sym q))) (or-false _)))
+          ];
+        }
+
+  pub free-marked : (m : ℕ) (marks : List ℕ) → Marks m starts ends slots c turn marks → firstBelow 8 (λ b. getD marks b 0 == 0) ≡ freeBy m starts ends slots c turn
+  unfolding freeBy
+  free-marked m marks h = first-same 8 _ _ (h .free)
 
 module _ (g : Grid) (starts ends : List ℕ) (sp : Spanned g starts ends) where
   -- ---- what the lists say of a fragment
 
   pub hit-is : (slots : List ℕ) (c turn b x : ℕ) → x < g .m
       → hitSlot (getD starts x 0) (getD ends x 0) x (getD slots x 0) c turn b ≡ (taken (firstColumn g) (covers g) c turn x and nth slots x == b)
-  unfolding hitSlot taken covers _and_
+  unfolding hitSlot enteredBy taken covers _and_
   hit-is slots c turn b x lt = rw (sp .begins x lt, sp .stops x lt, <?-true x (g .m) lt)
 
   -- the slot that the lists show free is the one that the theory takes
@@ -80,13 +125,14 @@ module _ (g : Grid) (starts ends : List ℕ) (sp : Spanned g starts ends) where
   unfolding freeBy freeSlot usedBy used
   free-is slots c turn = first-same 8 _ _ (λ b l. ap isnt (any-ext (g .m) _ _ (hit-is slots c turn b)))
 
-  pub spans-of : {slots : List ℕ} → g .m ≤ 128 → g .n ≤ 128 → length slots ≡ 128 → Spans (g .m) starts ends slots
-  spans-of few narrow long = record {
+  pub spans-of : {slots : List ℕ} → g .m ≤ 128 → g .n ≤ 128 → length slots ≡ 128 → ((x : ℕ) → getD slots x 0 < 8) → Spans (g .m) starts ends slots
+  spans-of few narrow long fits = record {
     few = few;
     starts-size = sp .starts-size;
     ends-size = sp .ends-size;
     slots-size = long;
     low = λ x l. let e = sp .begins x l in let h = start-le g x in omega arith;
+    slots-low = fits;
   }
 
   pub covered : (c i : ℕ) → i < g .m → getD starts i 0 ≤ c → c < getD ends i 0 → T (covers g c i)

@@ -1,46 +1,76 @@
 // A slot below 8 for each fragment, which no other fragment has that covers one of its columns.
 ghost use mathlib.Core.Path.{_≡_};
 ghost use Prim.Native.Nat.{_+_, _*_, _<_, _≤_};
+ghost use lib.ListN.{length, replicate};
+ghost use Rattle.below.specs.Below.{nth, firstBelow, _==_};
 ghost use Rattle.matrix.specs.Algorithm.Matrix.{matrixGrid, Matrix};
 ghost use Rattle.conflicts.specs.Served.{NoneDeep};
-ghost use Rattle.slots.specs.Algorithm.Spans.{hitSlot, usedBy, freeBy, Spans, Spanned, Granted, Slotted};
+ghost use Rattle.slots.specs.Algorithm.Spans.{enteredBy, freeBy, Spans, Marks, Spanned, Granted, Slotted};
 
-// A fragment from s to e at position x, with slot k: it covers column c, entered before the turn, and its slot is b.
-fn hit_slot(s: usize, e: usize, x: usize, k: usize, c: usize, turn: usize, b: usize) -> bool
+// A fragment from s to e at position x covers column c and entered before the turn.
+fn entered(s: usize, e: usize, x: usize, c: usize, turn: usize) -> bool
     requires { ⌜ (x < 128) × (s ≤ 128) ⌝ }
-    ensures { λ r. ⌜ r ≡ hitSlot s e x k c turn b ⌝ }
+    ensures { λ r. ⌜ r ≡ enteredBy s e x c turn ⌝ }
 {
     if s <= c {
         if c < e {
-            if s * 256 + x < turn {
-                return k == b;
-            }
+            return s * 256 + x < turn;
         }
     }
     false
 }
 
-// Slot b is used at column c by a fragment that entered before the turn.
-fn is_used(
+// Marks fragment x's slot, if it covers column c and entered before the turn.
+fn mark_slot(
+    starts: &[usize],
+    ends: &[usize],
+    slots: &[usize],
+    c: usize,
+    turn: usize,
+    x: usize,
+    marks: &mut [u8],
+)
+    requires { ⌜ Spans (x + 1) (now starts) (now ends) (now slots) × Marks x (now starts) (now ends) (now slots) c turn (now marks) ⌝ }
+    ensures { λ _. ⌜ Marks (x + 1) (now (starts .entry)) (now (ends .entry)) (now (slots .entry)) c turn (now (marks .exit)) ⌝ }
+{
+    if entered(starts[x], ends[x], x, c, turn) {
+        marks[slots[x]] = 1;
+    }
+}
+
+// Marks the slots in use at column c, in marks that are all 0.
+fn mark_slots(
     m: usize,
     starts: &[usize],
     ends: &[usize],
     slots: &[usize],
     c: usize,
     turn: usize,
-    b: usize,
-) -> bool
-    requires { ⌜ Spans m (now starts) (now ends) (now slots) ⌝ }
-    ensures { λ r. ⌜ r ≡ usedBy m (now (starts .entry)) (now (ends .entry)) (now (slots .entry)) c turn b ⌝ }
+    marks: &mut [u8],
+)
+    requires { ⌜ Spans m (now starts) (now ends) (now slots) × (now marks ≡ replicate 8 0) ⌝ }
+    ensures { λ _. ⌜ Marks m (now (starts .entry)) (now (ends .entry)) (now (slots .entry)) c turn (now (marks .exit)) ⌝ }
 {
     let mut x = 0;
     while x < m {
-        if hit_slot(starts[x], ends[x], x, slots[x], c, turn, b) {
-            return true;
-        }
+        mark_slot(starts, ends, slots, c, turn, x, marks);
         x += 1;
     }
-    false
+}
+
+// The lowest of 8 slots without a mark, and 8 where all have one.
+fn first_unmarked(marks: &[u8]) -> usize
+    requires { ⌜ length (now marks) ≡ 8 ⌝ }
+    ensures { λ r. ⌜ r ≡ firstBelow 8 (λ b. nth (now (marks .entry)) b == 0) ⌝ }
+{
+    let mut b = 0;
+    while b < 8 {
+        if marks[b] == 0 {
+            return b;
+        }
+        b += 1;
+    }
+    8
 }
 
 // The lowest free slot at column c, and 8 where none is.
@@ -55,14 +85,9 @@ fn free_slot(
     requires { ⌜ Spans m (now starts) (now ends) (now slots) ⌝ }
     ensures { λ r. ⌜ r ≡ freeBy m (now (starts .entry)) (now (ends .entry)) (now (slots .entry)) c turn ⌝ }
 {
-    let mut b = 0;
-    while b < 8 {
-        if !is_used(m, starts, ends, slots, c, turn, b) {
-            return b;
-        }
-        b += 1;
-    }
-    8
+    let mut marks = [0u8; 8];
+    mark_slots(m, starts, ends, slots, c, turn, &mut marks);
+    first_unmarked(&marks)
 }
 
 // Fragment f gets its slot, if it starts at column c.

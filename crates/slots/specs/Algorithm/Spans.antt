@@ -25,9 +25,13 @@ coveredBy m starts ends c = countBelow m (λ i. nth starts i ≤? c and c <? nth
 unfoldable pub deepBy : ℕ → ℕ → List ℕ → List ℕ → ℕ
 deepBy m n starts ends = firstBelow n (λ c. 8 <? coveredBy m starts ends c)
 
--- a fragment from s to e at position x, with slot k: it covers column c, entered before the turn, and its slot is b
+-- a fragment from s to e at position x covers column c and entered before the turn
+unfoldable pub enteredBy : ℕ → ℕ → ℕ → ℕ → ℕ → Bool
+enteredBy s e x c turn = s ≤? c and c <? e and s * 256 + x <? turn
+
+-- the same with slot k, and its slot is b
 unfoldable pub hitSlot : ℕ → ℕ → ℕ → ℕ → ℕ → ℕ → ℕ → Bool
-hitSlot s e x k c turn b = s ≤? c and c <? e and s * 256 + x <? turn and k == b
+hitSlot s e x k c turn b = enteredBy s e x c turn and k == b
 
 -- slot b is used at column c by one of the first m fragments that entered before the turn
 unfoldable pub usedBy : ℕ → List ℕ → List ℕ → List ℕ → ℕ → ℕ → ℕ → Bool
@@ -37,13 +41,19 @@ usedBy m starts ends slots c turn b = anyBelow m (λ x. hitSlot (nth starts x) (
 unfoldable pub freeBy : ℕ → List ℕ → List ℕ → List ℕ → ℕ → ℕ → ℕ
 freeBy m starts ends slots c turn = firstBelow 8 (λ b. isnt (usedBy m starts ends slots c turn b))
 
--- lists of where m fragments start and end and of their slots, with starts that leave room for the turn
+-- lists of where m fragments start and end and of their slots below 8, with starts that leave room for the turn
 pub record Spans (m : ℕ) (starts ends slots : List ℕ) : Type 0 where
   pub few : m ≤ 128
   pub starts-size : length starts ≡ 128
   pub ends-size : length ends ≡ 128
   pub slots-size : length slots ≡ 128
   pub low : (x : ℕ) → x < m → getD starts x 0 ≤ 128
+  pub slots-low : (x : ℕ) → getD slots x 0 < 8
+
+-- a mark for each slot: 0 where none of the first m fragments uses it
+pub record Marks (m : ℕ) (starts ends slots : List ℕ) (c turn : ℕ) (marks : List ℕ) : Type 0 where
+  pub size : length marks ≡ 8
+  pub free : (b : ℕ) → b < 8 → (nth marks b == 0) ≡ isnt (usedBy m starts ends slots c turn b)
 
 -- the slots of the fragments that entered before the turn
 pub record Granted (g : Grid) (turn : ℕ) (slots : List ℕ) : Type 0 where

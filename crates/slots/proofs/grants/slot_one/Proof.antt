@@ -12,7 +12,7 @@ unfolding matrixGrid
 free-slot-requires c κs =
     let s = c .before .before .before .before .before .before .before in
     let a = s .args in
-    spans-of (matrixGrid (a .m) (a .n) (a .cells .now)) (a .starts .now) (a .ends .now) (s .pre .1) (s .pre .0 .rows) (s .pre .0 .columns) (s .pre .5 .size)
+    spans-of (matrixGrid (a .m) (a .n) (a .cells .now)) (a .starts .now) (a .ends .now) (s .pre .1) (s .pre .0 .rows) (s .pre .0 .columns) (s .pre .5 .size) (s .pre .5 .low)
 
 returns : tie.Need-returns
 unfolding matrixGrid
