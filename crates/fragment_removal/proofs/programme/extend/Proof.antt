@@ -26,7 +26,7 @@ births-requires : tie.Need-births-requires
 births-requires c κs =
     let s = c .before .before .before .before .before .before .before .before .before in
     let few = s .pre .0 .few in
-    (s .pre .3, c .before .before .before .last-dead .ensures .0, search needs, omega arith)
+    let dead = c .before .before .before .last-dead .ensures .0 in (s .pre .3, omega arith, search needs, omega arith)
 
 fill-agreements-requires : tie.Need-fill-agreements-requires
 fill-agreements-requires c κs = let p = c .before .before .before .before .before .before .before .before .before .before .before .before .before .before .before .before .before .pre .0 in let h = p .few in (p .words-size, omega arith, search needs)
