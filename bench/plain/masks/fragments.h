@@ -15,7 +15,7 @@ static uint8_t reach(const line *x) {
 }
 
 // The first column that a fragment calls, and 0 where it calls none.
-static uint8_t first_call(const line *x) {
+static uint8_t line_start(const line *x) {
     uint64_t low = x->a[0] | x->b[0], high = x->a[1] | x->b[1];
     if (low) return __builtin_ctzll(low);
     return high ? HALF + __builtin_ctzll(high) : 0;
@@ -76,7 +76,7 @@ static size_t fragment_keep_marks(size_t m, const line *lines, uint16_t *work, s
     for (size_t s = 1; s <= m; s++) reaches[s] = reach(lines + s - 1);
     size_t d = m;
     for (size_t i = m; i-- > 0;) {
-        size_t first = last_dead(reaches, first_call(lines + i), d < i ? d : i);
+        size_t first = last_dead(reaches, line_start(lines + i), d < i ? d : i);
         while (d > first) give_birth(t, --d, i + 1);
         for (size_t s = d > 1 ? d : 1; s <= i; s++) agrees[s] = agree(lines + s - 1, lines + i);
         add_fragment(t, agrees, reaches, rank_single(1, i), i, d);
