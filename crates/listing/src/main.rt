@@ -17,7 +17,7 @@ use records::table_fault;
 use services::put_check;
 use services::put_least;
 
-mod fields;
+mod answers;
 mod input;
 mod lines;
 mod services;

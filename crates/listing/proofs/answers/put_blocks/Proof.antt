@@ -9,8 +9,8 @@ use native.Mathlib.Nat.{add-zero}
 use mathlib.Core.List.{List, _++_}
 use mathlib.Core.Path.{sym, ap, _∙_}
 use Prim.Native.Nat.{ℕ, _+_, _*_, _-_, _≤_, _<_}
-use Rattle.listing.proofs.fields.put_blocks.Statement.{statement}
-use Rattle.listing.proofs.fields.put_blocks.Tie as tie
+use Rattle.listing.proofs.answers.put_blocks.Statement.{statement}
+use Rattle.listing.proofs.answers.put_blocks.Tie as tie
 
 -- the word of block i
 abbrev words : List ℕ → ℕ → ℕ → List ℕ

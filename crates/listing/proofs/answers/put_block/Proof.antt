@@ -7,8 +7,8 @@ use Rattle.below.specs.Below.{_==_}
 use native.Mathlib.Omega.{arith}
 use mathlib.Core.Path.{sym}
 use borrow.Author.Needs.{needs}
-use Rattle.listing.proofs.fields.put_block.Statement.{statement}
-use Rattle.listing.proofs.fields.put_block.Tie as tie
+use Rattle.listing.proofs.answers.put_block.Statement.{statement}
+use Rattle.listing.proofs.answers.put_block.Tie as tie
 
 returns : tie.Need-returns
 unfolding blockWord ascii

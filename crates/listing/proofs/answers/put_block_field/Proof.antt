@@ -6,8 +6,8 @@ use mathlib.Core.List.{List, _++_}
 use mathlib.Core.Path.{ap}
 use Rattle.below.specs.Text.{ascii}
 use borrow.Author.Needs.{needs}
-use Rattle.listing.proofs.fields.put_block_field.Statement.{statement}
-use Rattle.listing.proofs.fields.put_block_field.Tie as tie
+use Rattle.listing.proofs.answers.put_block_field.Statement.{statement}
+use Rattle.listing.proofs.answers.put_block_field.Tie as tie
 
 returns : tie.Need-returns
 unfolding ascii

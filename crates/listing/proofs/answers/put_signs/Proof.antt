@@ -9,8 +9,8 @@ use native.Mathlib.Omega.{arith}
 use mathlib.Core.List.{List, [], _∷_, _++_}
 use mathlib.Core.Path.{sym, ap, _∙_}
 use Prim.Native.Nat.{ℕ, _+_, _-_, _≤_}
-use Rattle.listing.proofs.fields.put_signs.Statement.{statement}
-use Rattle.listing.proofs.fields.put_signs.Tie as tie
+use Rattle.listing.proofs.answers.put_signs.Statement.{statement}
+use Rattle.listing.proofs.answers.put_signs.Tie as tie
 
 -- the sign of code i
 abbrev codes : List ℕ → List ℕ → ℕ → ℕ → ℕ
