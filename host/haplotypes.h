@@ -102,7 +102,7 @@ enum {
 };
 
 /* The bytes of stack that must be free below the caller's frame: what was measured on full tables, with some room. host/stack/test measures
- * again and holds every service to its figure. F's words alone are 266,256 bytes, more than the whole stack of a thread on some systems. A thread's
+ * again and holds every service to its figure. F's words alone are 134,160 bytes, more than the whole stack of a thread on some systems. A thread's
  * own frames, and its thread-local variables where the C library puts them on the stack, come on top.
  *
  * Where there is less, the call touches the page below the stack before anything further down, and the system ends the program (SIGSEGV): it
@@ -113,11 +113,11 @@ enum {
     HAPLOTYPES_STACK_UNPACK = 8 * 1024,
     HAPLOTYPES_STACK_PACK = 8 * 1024,
     HAPLOTYPES_STACK_FIND = 8 * 1024,
-    HAPLOTYPES_STACK_CHECK = 40 * 1024,
-    HAPLOTYPES_STACK_CONFLICT_COUNTS = 48 * 1024,
-    HAPLOTYPES_STACK_LEAST_SNP_REMOVAL = 48 * 1024,
-    HAPLOTYPES_STACK_LEAST_FRAGMENT_REMOVAL = 304 * 1024,
-    HAPLOTYPES_STACK_LEAST_CORRECTIONS = 64 * 1024
+    HAPLOTYPES_STACK_CHECK = 12 * 1024,
+    HAPLOTYPES_STACK_CONFLICT_COUNTS = 28 * 1024,
+    HAPLOTYPES_STACK_LEAST_SNP_REMOVAL = 20 * 1024,
+    HAPLOTYPES_STACK_LEAST_FRAGMENT_REMOVAL = 148 * 1024,
+    HAPLOTYPES_STACK_LEAST_CORRECTIONS = 52 * 1024
 };
 
 typedef uint64_t haplotypes_verdict; /* what check returns */
@@ -167,7 +167,7 @@ HAPLOTYPES_SERVICE haplotypes_count haplotypes_least_snp_removal(size_t n, const
                                                                  uint16_t *work, size_t work_length, uint8_t *answer, size_t answer_length);
 
 /* F: the fewest fragments to remove so that the rest is error-free. Returns their number, which is that of the sides 0.
- * Lengths, work and holes as for S. Takes 304 KiB of stack. */
+ * Lengths, work and holes as for S. Takes 148 KiB of stack. */
 HAPLOTYPES_SERVICE haplotypes_count haplotypes_least_fragment_removal(size_t n, const uint8_t *table, size_t table_length,
                                                                       uint16_t *work, size_t work_length, uint8_t *answer, size_t answer_length);
 

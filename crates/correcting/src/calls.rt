@@ -185,7 +185,7 @@ fn correct_kept(
     correct_shallow(n, m, table, &cells, work, answer, corrected)
 }
 
-// Accepted with the total of the corrected calls, each by its fragment's weight, the answer's 3n + 2m bytes, the 32m bytes of the corrected records, and the work all zero. A refusal writes nothing. Takes 60 KB of stack.
+// Accepted with the total of the corrected calls, each by its fragment's weight, the answer's 3n + 2m bytes, the 32m bytes of the corrected records, and the work all zero. A refusal writes nothing. Takes 47 KB of stack.
 pub fn least_corrections(
     n: usize,
     table: &[u8],

@@ -68,7 +68,7 @@ fn counts_sized(n: usize, m: usize, table: &[u8], counts: &mut [u8]) -> Outcome
     }
 }
 
-// Accepted with m, and m × m bytes: row by row, on how many columns fragments i and j conflict. A refusal writes nothing. Takes 23 KB of stack.
+// Accepted with m, and m × m bytes: row by row, on how many columns fragments i and j conflict. A refusal writes nothing. Takes 24 KB of stack.
 pub fn conflict_counts(n: usize, table: &[u8], counts: &mut [u8]) -> Outcome
     ensures outcome { λ r. ⌜ outcomeOf r ≡ conflictCountsLeaves n (now (table .entry)) (now (counts .entry)) .outcome ⌝ }
     ensures counts { λ _. ⌜ now (counts .exit) ≡ conflictCountsLeaves n (now (table .entry)) (now (counts .entry)) .counts ⌝ }

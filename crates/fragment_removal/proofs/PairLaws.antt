@@ -19,7 +19,7 @@ use Rattle.ranks.specs.Algorithm.Weight.{top, place, placesOf, AtMost, removal}
 use Rattle.ranks.specs.Algorithm.Reading.{code, value, SumFits}
 use Rattle.ranks.specs.Algorithm.Tables.{Put, Sweep, Cleared}
 use Rattle.ranks.proofs.WeightLaws.{places-top, atMost-more, atMost-add}
-use Rattle.ranks.proofs.TableLaws.{parts-small, put-as, sweep-none, sweep-more, zeros-at}
+use Rattle.ranks.proofs.TableLaws.{parts-small, put-as, sweep-more, zeros-at}
 use Rattle.fragment_states.specs.Algorithm.Fragments.{Begins, stateReach, mayJoin}
 use Rattle.fragment_removal.specs.Algorithm.Programme.{furthest, keepFragment, withFragment, mostKept}
 use Rattle.fragment_removal.specs.Algorithm.Pairs.{rowStart, corner, pairs, along, Fits, FragmentRoom, Rows, Made, HoldsFragments}

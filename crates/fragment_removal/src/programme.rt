@@ -1,6 +1,7 @@
 // The programme over the last fragments, one more at a time and in place: one weight for each pair of states (paper 001, section 5.2).
 // It is the greatest of what is kept, which is least in what is removed: where a fragment joins neither side nothing changes.
 // The sides are alike, so a pair of states has one place, in the row of the later one.
+// A state that reaches no further than every fragment to come starts is dead: it hinders none of them. The first states are dead up to some d, and d stands for all of them.
 use fragment_states::fill_agreements;
 use masks::line_at;
 use places::Line;

@@ -59,7 +59,7 @@ fn remove_fragments(n: usize, m: usize, table: &[u8], work: &mut [u16], answer: 
 }
 
 // Accepted with the number of removed fragments, the answer's 3n + 2m bytes, and the work all zero. A refusal writes nothing.
-// Takes 305 KB of stack, 266 of them for the words of its programme's weights: more than some systems give a thread.
+// Takes 142 KB of stack, 134 of them for the words of its programme's weights: more than some systems give a thread.
 pub fn least_fragment_removal(
     n: usize,
     table: &[u8],

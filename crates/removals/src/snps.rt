@@ -55,7 +55,7 @@ fn remove_snps(n: usize, m: usize, table: &[u8], answer: &mut [u8]) -> usize
     phase_kept(n, m, table, &mut keep[0..n], &frags[0..m], answer)
 }
 
-// Accepted with the number of removed columns, the answer's 3n + 2m bytes, and the work all zero. A refusal writes nothing. Takes 12 KB of stack.
+// Accepted with the number of removed columns, the answer's 3n + 2m bytes, and the work all zero. A refusal writes nothing. Takes 14 KB of stack.
 pub fn least_snp_removal(n: usize, table: &[u8], work: &mut [u16], answer: &mut [u8]) -> Outcome
     ensures outcome { λ r. ⌜ outcomeOf r ≡ snpRemovalLeaves n (now (table .entry)) (now (answer .entry)) (now (work .entry)) .outcome ⌝ }
     ensures work { λ _. ⌜ now (work .exit) ≡ snpRemovalLeaves n (now (table .entry)) (now (answer .entry)) (now (work .entry)) .work ⌝ }

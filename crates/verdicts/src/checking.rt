@@ -51,7 +51,7 @@ fn check_sized(n: usize, m: usize, table: &[u8], answer: &mut [u8]) -> Outcome
     }
 }
 
-// Accepted with 0 for yes, and the whole answer; with 1 for no, and the answer untouched. A refusal writes nothing. Takes 6 KB of stack.
+// Accepted with 0 for yes, and the whole answer; with 1 for no, and the answer untouched. A refusal writes nothing. Takes 8 KB of stack.
 pub fn check(n: usize, table: &[u8], answer: &mut [u8]) -> Outcome
     ensures outcome { λ r. ⌜ outcomeOf r ≡ checkLeaves n (now (table .entry)) (now (answer .entry)) .outcome ⌝ }
     ensures answer { λ _. ⌜ now (answer .exit) ≡ checkLeaves n (now (table .entry)) (now (answer .entry)) .answer ⌝ }

@@ -221,7 +221,7 @@ pub fn least_snp_removal(n: usize, table: &[u8], work: &mut [u16], answer: &mut 
 /// F: the fewest fragments to remove so that the rest is error-free. Accepted with their number, the answer, and the work all zero. No fragment
 /// may have a hole between two calls.
 ///
-/// Have 304 KiB of stack free. A thread of Rust's own making has 2 MiB; where one has too little, the program ends as by any overflow of the stack.
+/// Have 148 KiB of stack free. A thread of Rust's own making has 2 MiB; where one has too little, the program ends as by any overflow of the stack.
 ///
 /// ```
 /// use haplotypes::{answer_length, least_fragment_removal, pack, Outcome, WORK};

@@ -1,8 +1,7 @@
 -- `programme::line_start` meets its contract. The loop's invariant: no column below c is called.
 -- Assumes nothing.
 use mathlib.Core.Path.{sym, _∙_}
-use Prim.Native.Nat.{_-_, _≤_}
-use native.Mathlib.Omega.{arith}
+use Prim.Native.Nat.{_-_}
 use borrow.Author.Needs.{needs}
 use Rattle.below.proofs.SearchLaws.{NoneBelow, none-yet, none-more}
 use Rattle.records.proofs.ExtentLaws.{calls}
