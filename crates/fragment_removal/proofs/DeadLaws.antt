@@ -3,11 +3,13 @@
 use mathlib.Core.Path.{_≡_, refl, sym, ap, _∙_}
 use mathlib.Core.Logic.{inl, inr}
 use mathlib.Core.Bool.{true}
-use Prim.Native.Nat.{ℕ, zero, suc, _+_, _-_, _≤_, _<_}
-use native.Mathlib.Nat.{le-refl, eq-zero-or-pos}
+use mathlib.Core.List.{List}
+use Prim.Native.Nat.{ℕ, zero, suc, _+_, _-_, _≤_, _<_, max, zero-le}
+use native.Mathlib.Nat.{le-refl, eq-zero-or-pos, max-le, le-max-right, max-eq-left, max-eq-right}
 use native.Mathlib.Numerals.{add-one}
-use native.Mathlib.Decide.{decLe}
+use native.Mathlib.Decide.{ℕ-discrete, decLe}
 use native.Mathlib.Omega.{arith}
+use Rattle.below.specs.Below.{nth}
 use Rattle.below.proofs.SearchLaws.{T-true}
 use Rattle.fields.specs.Writing.{callsSpan}
 use Rattle.records.proofs.ExtentLaws.{extent-of}
@@ -15,10 +17,12 @@ use Rattle.conflicts.specs.Grid.{Grid, conflictOn}
 use Rattle.conflicts.proofs.CorrectionLaws.{conflict-calls}
 use Rattle.ranks.specs.Algorithm.Weight.{removal}
 use Rattle.fragment_states.specs.Algorithm.Fragments.{reach, stateReach, mayJoin}
-use Rattle.fragment_removal.specs.Algorithm.Programme.{furthest, mostKept}
-use Rattle.fragment_removal.specs.Algorithm.Pairs.{Dead}
+use Rattle.fragment_pairs.specs.Algorithm.Layer.{furthest}
+use Rattle.fragment_pairs.specs.Algorithm.Pairs.{Copied}
+use Rattle.fragment_pairs.proofs.PairLaws.{keep-same, keep-swap, further, no-further}
+use Rattle.fragment_removal.specs.Algorithm.Programme.{mostKept}
+use Rattle.fragment_removal.specs.Algorithm.Holding.{HoldsFragments, Dead, Behind}
 use Rattle.fragment_removal.proofs.Lemma18.{start, agree-of, calls-from, calls-to}
-use Rattle.fragment_removal.proofs.PairLaws.{keep-same, keep-swap, further, no-further}
 
 module _ (g : Grid) where
   -- ---- one fragment and a state that reaches no further than it starts
@@ -91,3 +95,41 @@ module _ (g : Grid) where
       let v = mostKept g k in
       keep-swap (mayJoin g h i) (mayJoin g l i) _ _ (v h l)
       ∙ keep-same {a = mayJoin g l i} {b = mayJoin g h i} {own = removal i} refl refl refl (kept-swap k h (furthest (stateReach g) l i)) (kept-swap k (furthest (stateReach g) h i) l) (kept-swap k h l)
+
+-- ---- what the table holds
+
+module _ (g : Grid) (k d : ℕ) (km : k ≤ g .m) (dead : Dead g k d) where
+  -- state d in place of one before it
+  kept-later : (h l : ℕ) → mostKept g k (max h d) l ≡ mostKept g k h l
+  kept-later h l = elim (decLe d h) [
+    | yes le ↦ ap (λ (x : ℕ). mostKept g k x l) (max-eq-left le)
+    | no nle ↦ ap (λ (x : ℕ). mostKept g k x l) (max-eq-right {n = h} {m = d} (omega arith)) ∙ dead-same g k d km dead d h (le-refl d) (omega arith) l
+  ]
+
+  -- the table holds the weights of the states that come to life
+  pub holds-born : (v w : ℕ → ℕ → ℕ) (e n : ℕ) → d ≤ g .m - k → n ≡ g .m - k → HoldsFragments g k d v → Copied v w e d n → HoldsFragments g k e w
+  holds-born v w e n dm nm held copies = record { holds = holds }
+    where
+      holds : (h l : ℕ) → e ≤ h → e ≤ l → h ≤ g .m - k → l ≤ g .m - k → w h l ≡ mostKept g k h l
+      holds h l eh el hm lm =
+          copies .copied h l eh el (omega arith) (omega arith) ∙ held .holds (max h d) (max l d) (le-max-right h d) (le-max-right l d) (max-le hm dm) (max-le lm dm)
+          ∙ kept-later h (max l d) ∙ kept-swap g k h (max l d) ∙ kept-later l h ∙ kept-swap g k l h
+
+  -- one fragment more, that starts no sooner than the states up to e reach
+  pub dead-more : (reaches : List ℕ) (e i first : ℕ) → e ≤ d → k < g .m → i ≡ g .m - 1 - k → ((s : ℕ) → s < g .m + 1 → nth reaches s ≡ stateReach g s) → e ≤ i
+      → first ≡ start g i → Behind reaches first e → Dead g (k + 1) e
+  dead-more reaches e i first ed kin is reach ei starts behind = record { behind = all }
+    where
+      all : (s p : ℕ) → s ≤ e → g .m - (k + 1) ≤ p → p < g .m → stateReach g s ≤ start g p
+      all s p se lo hi = elim (ℕ-discrete p i) [
+        | yes same ↦ rw same (let b = behind .behind s se in let r = reach s (omega arith) in omega arith)
+        | no ne ↦ dead .behind s p (omega arith) (omega arith) hi
+      ]
+
+-- ---- the states behind a start
+
+pub behind-none : (reaches : List ℕ) (first : ℕ) → nth reaches 0 ≡ 0 → Behind reaches first 0
+behind-none reaches first e = record { behind = λ s l. let z : s ≡ 0 = omega arith in rw (z, e) zero-le }
+
+pub behind-more : (reaches : List ℕ) (first s : ℕ) → Behind reaches first s → nth reaches (s + 1) ≤ first → Behind reaches first (s + 1)
+behind-more reaches first s b h = record { behind = λ t l. elim (ℕ-discrete t (s + 1)) [ yes e ↦ rw e h | no ne ↦ b .behind t (omega arith) ] }

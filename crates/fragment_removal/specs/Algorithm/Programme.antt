@@ -1,15 +1,12 @@
--- The least weight of the fragments removed, by recursion on how many of the last fragments are weighed (paper 001, section 5.2).
+-- The least weight of the fragments removed, and the greatest of those kept, by recursion on how many of the last fragments are weighed (paper 001, section 5.2).
 -- Assumes nothing.
-use Prim.Native.Nat.{ℕ, zero, suc, _+_, _-_, min, max}
+use Prim.Native.Nat.{ℕ, zero, suc, _+_, _-_, min}
 use mathlib.Core.Bool.{Bool}
-use Rattle.below.specs.Below.{if_then_else_, _<?_}
+use Rattle.below.specs.Below.{if_then_else_}
 use Rattle.conflicts.specs.Grid.{Grid}
 use Rattle.ranks.specs.Algorithm.Weight.{removal}
 use Rattle.fragment_states.specs.Algorithm.Fragments.{stateReach, mayJoin}
-
--- the state of a side once the fragment at position i has joined it
-abbrev pub furthest : (ℕ → ℕ) → ℕ → ℕ → ℕ
-furthest reaches s i = if reaches s <? reaches (i + 1) then i + 1 else s
+use Rattle.fragment_pairs.specs.Algorithm.Layer.{furthest, withFragment}
 
 -- removed, on side 1 if it may join it, or on side 2: whichever weighs least
 abbrev pub chooseFragment : Bool → Bool → ℕ → ℕ → ℕ → ℕ → ℕ
@@ -24,16 +21,6 @@ leastFragmentWeight g (suc k) h l =
     let i = g .m - suc k in
     let v = leastFragmentWeight g k in
     chooseFragment (mayJoin g h i) (mayJoin g l i) (removal i) (v (furthest (stateReach g) h i) l) (v h (furthest (stateReach g) l i)) (v h l)
-
--- kept on side 1 if it may join it, on side 2, or removed: whichever weighs most
-abbrev pub keepFragment : Bool → Bool → ℕ → ℕ → ℕ → ℕ
-keepFragment first second one two rest =
-    let w = if second then max rest two else rest in
-    if first then max w one else w
-
--- what the fragment at position i, which weighs `own`, makes of the weights of those after it that are kept, at states h and l
-abbrev pub withFragment : (ℕ → Bool) → (ℕ → ℕ) → ℕ → ℕ → (ℕ → ℕ → ℕ) → ℕ → ℕ → ℕ
-withFragment may reaches own i v h l = keepFragment (may h) (may l) (own + v (furthest reaches h i) l) (own + v h (furthest reaches l i)) (v h l)
 
 -- the greatest weight of the last k fragments that are kept, at states h and l: what is removed and what is kept weigh all together
 unfoldable pub mostKept : Grid → ℕ → ℕ → ℕ → ℕ

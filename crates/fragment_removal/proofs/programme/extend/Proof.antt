@@ -9,9 +9,9 @@ use Rattle.ranks.specs.Algorithm.Reading.{value}
 use Rattle.below.specs.Below.{nth}
 use Rattle.fragment_states.specs.Algorithm.Fragments.{stateReach, wordsJoin}
 use Rattle.fragment_states.proofs.ReadLaws.{words-join}
-use Rattle.fragment_removal.specs.Algorithm.Pairs.{pairs}
-use Rattle.fragment_removal.proofs.PairLaws.{removal-of, begins-marks, holds-room, holds-more}
-use Rattle.fragment_removal.proofs.BirthLaws.{holds-born, dead-more}
+use Rattle.fragment_pairs.specs.Algorithm.Pairs.{pairs}
+use Rattle.fragment_removal.proofs.HoldingLaws.{removal-of, begins-marks, holds-room, holds-more}
+use Rattle.fragment_removal.proofs.DeadLaws.{holds-born, dead-more}
 use Rattle.fragment_removal.proofs.programme.extend.Statement.{statement}
 use Rattle.fragment_removal.proofs.programme.extend.Tie as tie
 

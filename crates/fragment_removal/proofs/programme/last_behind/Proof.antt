@@ -2,8 +2,8 @@
 -- Assumes nothing.
 use Prim.Native.Nat.{_-_, _≤_}
 use borrow.Author.Needs.{needs}
-use Rattle.fragment_removal.specs.Algorithm.Pairs.{Behind}
-use Rattle.fragment_removal.proofs.BirthLaws.{behind-none, behind-more}
+use Rattle.fragment_removal.specs.Algorithm.Holding.{Behind}
+use Rattle.fragment_removal.proofs.DeadLaws.{behind-none, behind-more}
 use Rattle.fragment_removal.proofs.programme.last_behind.Statement.{statement}
 use Rattle.fragment_removal.proofs.programme.last_behind.Tie as tie
 

@@ -7,7 +7,7 @@ use borrow.Author.Needs.{needs}
 use Rattle.fields.specs.Writing.{callsStart}
 use Rattle.places.specs.declared.lines.Line.{Line}
 use Rattle.masks.specs.Algorithm.Masks.{codeIn}
-use Rattle.fragment_removal.specs.Algorithm.Pairs.{Behind}
+use Rattle.fragment_removal.specs.Algorithm.Holding.{Behind}
 use Rattle.fragment_removal.proofs.programme.last_dead.Statement.{statement}
 use Rattle.fragment_removal.proofs.programme.last_dead.Tie as tie
 

@@ -10,8 +10,8 @@ use Rattle.conflicts.specs.Removal.{fragmentKeepMarks}
 use Rattle.masks.specs.Algorithm.Masks.{wordsGrid}
 use Rattle.ranks.specs.Algorithm.Weight.{digitAt}
 use Rattle.ranks.specs.Algorithm.Reading.{code}
-use Rattle.fragment_removal.specs.Algorithm.Pairs.{rowStart, corner}
-use Rattle.fragment_removal.proofs.PairLaws.{zeros-pairs, cleared-as, holds-none}
+use Rattle.fragment_pairs.specs.Algorithm.Pairs.{rowStart, corner}
+use Rattle.fragment_removal.proofs.HoldingLaws.{zeros-pairs, cleared-as, holds-none}
 use Rattle.fragment_removal.proofs.FragmentLaws.{rank-marks}
 use Rattle.fragment_removal.proofs.programme.least.Statement.{statement}
 use Rattle.fragment_removal.proofs.programme.least.Tie as tie

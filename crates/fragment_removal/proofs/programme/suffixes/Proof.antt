@@ -7,7 +7,8 @@ use native.Mathlib.Omega.{arith}
 use lib.ListN.{length}
 use borrow.Author.Needs.{needs}
 use Rattle.masks.specs.Algorithm.Masks.{wordsGrid}
-use Rattle.fragment_removal.specs.Algorithm.Pairs.{pairs, HoldsFragments, Dead}
+use Rattle.fragment_pairs.specs.Algorithm.Pairs.{pairs}
+use Rattle.fragment_removal.specs.Algorithm.Holding.{HoldsFragments, Dead}
 use Rattle.fragment_removal.proofs.DeadLaws.{dead-none}
 use Rattle.fragment_removal.proofs.programme.suffixes.Statement.{statement}
 use Rattle.fragment_removal.proofs.programme.suffixes.Tie as tie

@@ -1,0 +1,4 @@
+pub mod OrderLaws
+pub mod CornerLaws
+pub mod PairLaws
+pub mod BirthLaws
