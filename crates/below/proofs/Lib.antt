@@ -5,3 +5,4 @@ pub mod RowLaws
 pub mod FillLaws
 pub mod CountLaws
 pub mod MemberLaws
+pub mod EndLaws

@@ -1,3 +1,4 @@
 pub mod WordLaws
 pub mod PlaceLaws
 pub mod ShiftLaws
+pub mod ZeroLaws

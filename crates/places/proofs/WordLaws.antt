@@ -20,7 +20,7 @@ use Rattle.places.specs.Algorithm.Words.{wordOf}
 
 -- ---- size, and tests that agree
 
-bit-lt : (b : Bool) → bit b < 2
+pub bit-lt : (b : Bool) → bit b < 2
 bit-lt true = omega arith
 bit-lt false = omega arith
 

@@ -2,7 +2,7 @@
 ghost use mathlib.Core.Path.{_≡_};
 ghost use mathlib.Core.Bool.{Bool};
 ghost use Prim.Native.Nat.{ℕ, _+_, _*_, _-_, _^_, _<_, _≤_};
-ghost use Rattle.below.specs.Below.{bit, _<?_, _≤?_, _and_};
+ghost use Rattle.below.specs.Below.{bit, _<?_, _≤?_, _and_, firstBelow, endBelow};
 ghost use Rattle.places.specs.Algorithm.Words.{wordOf};
 ghost use Rattle.places.specs.Algorithm.Places.{placesWhere, bothOf, eitherOf, withoutOf, hasPlace, size, occupied};
 
@@ -105,6 +105,28 @@ impl Places {
         ensures { λ r. ⌜ r ≡ occupied self ⌝ }
     {
         (self.low | self.high) != 0
+    }
+
+    // Its lowest place, and 128 where it has none.
+    pub fn lowest(self) -> u32
+        ensures { λ r. ⌜ r ≡ firstBelow 128 (hasPlace self) ⌝ }
+    {
+        let low = u64::trailing_zeros(self.low);
+        if low < 64 {
+            return low;
+        }
+        64 + u64::trailing_zeros(self.high)
+    }
+
+    // One past its highest place, and 0 where it has none.
+    pub fn end(self) -> u32
+        ensures { λ r. ⌜ r ≡ endBelow 128 (hasPlace self) ⌝ }
+    {
+        let high = u64::leading_zeros(self.high);
+        if high < 64 {
+            return 128 - high;
+        }
+        64 - u64::leading_zeros(self.low)
     }
 }
 
