@@ -2,6 +2,7 @@
 // A state that reaches no further than every fragment to come starts is dead: it hinders none of them. The first states are dead up to some d, and d stands for all of them.
 use fragment_pairs::births;
 use fragment_pairs::layer;
+use fragment_states::calls_below;
 use fragment_states::fill_agreements;
 use masks::line_at;
 use places::Line;
@@ -26,15 +27,9 @@ fn line_start(n: usize, line: Line) -> u8
     requires { ⌜ n ≤ 128 ⌝ }
     ensures { λ r. ⌜ r ≡ callsStart n (codeIn line) ⌝ }
 {
-    let mut c = 0;
-    while c < n {
-        if line.a.has(c) {
-            return c as u8;
-        }
-        if line.b.has(c) {
-            return c as u8;
-        }
-        c += 1;
+    let first = calls_below(n, line).lowest();
+    if first < 128 {
+        return first as u8;
     }
     0
 }

@@ -1,24 +1,23 @@
 // What the programme asks of the fragments, by their masks: reaches and agreement (paper 001, section 5.2).
 use masks::line_at;
 use places::Line;
+use places::Places;
 ghost use mathlib.Core.Path.{_≡_};
 ghost use Prim.Native.Nat.{ℕ, _+_, _<_, _≤_};
 ghost use lib.ListN.{length};
-ghost use Rattle.below.specs.Below.{bit};
+ghost use Rattle.below.specs.Below.{bit, _<?_, _and_};
 ghost use Rattle.fields.specs.Record.{isCall};
 ghost use Rattle.fields.specs.Writing.{callsEnd};
+ghost use Rattle.places.specs.Algorithm.Places.{placesWhere};
 ghost use Rattle.masks.specs.Algorithm.Masks.{codeIn, wordsGrid};
 ghost use Rattle.fragment_states.specs.Algorithm.Fragments.{Begins, stateReach, wordsAgree, wordsJoin};
 
-// Whether a line has a call at column c.
-fn call_at(line: Line, c: usize) -> bool
-    requires { ⌜ c < 128 ⌝ }
-    ensures { λ r. ⌜ r ≡ isCall (codeIn line c) ⌝ }
+// Of the first n columns, those that a line calls.
+pub fn calls_below(n: usize, line: Line) -> Places
+    requires { ⌜ n ≤ 128 ⌝ }
+    ensures { λ r. ⌜ r ≡ placesWhere (λ c. c <? n and isCall (codeIn line c)) ⌝ }
 {
-    if line.a.has(c) {
-        return true;
-    }
-    line.b.has(c)
+    Places::first(n).both(line.a.either(line.b))
 }
 
 // One past the last of the first n columns that a line calls, and 0 where it calls none.
@@ -26,14 +25,7 @@ fn line_end(n: usize, line: Line) -> usize
     requires { ⌜ n ≤ 128 ⌝ }
     ensures { λ r. ⌜ (r ≡ callsEnd n (codeIn line)) × (r ≤ n) ⌝ }
 {
-    let mut end = n;
-    while 0 < end {
-        if call_at(line, end - 1) {
-            return end;
-        }
-        end -= 1;
-    }
-    0
+    calls_below(n, line).end() as usize
 }
 
 // How far a side's state reaches.
