@@ -7,19 +7,18 @@
 
 enum { STATES = MOST + 1, PAIRS = STATES * (STATES + 1) / 2 };
 
-static inline bool calls_at(const line *x, size_t c) { return (x->a[c / HALF] | x->b[c / HALF]) >> c % HALF & 1; }
-
 // One past the last column that a fragment calls, and 0 where it calls none.
-static uint8_t reach(size_t n, const line *x) {
-    while (n > 0 && !calls_at(x, n - 1)) n--;
-    return n;
+static uint8_t reach(const line *x) {
+    uint64_t low = x->a[0] | x->b[0], high = x->a[1] | x->b[1];
+    if (high) return 2 * HALF - __builtin_clzll(high);
+    return low ? HALF - __builtin_clzll(low) : 0;
 }
 
 // The first column that a fragment calls, and 0 where it calls none.
-static uint8_t line_start(size_t n, const line *x) {
-    for (size_t c = 0; c < n; c++)
-        if (calls_at(x, c)) return c;
-    return 0;
+static uint8_t line_start(const line *x) {
+    uint64_t low = x->a[0] | x->b[0], high = x->a[1] | x->b[1];
+    if (low) return __builtin_ctzll(low);
+    return high ? HALF + __builtin_ctzll(high) : 0;
 }
 
 static inline bool agree(const line *x, const line *y) { return !(unlike(x, y, 0) | unlike(x, y, 1)); }
@@ -67,19 +66,19 @@ static void give_birth(ranks t, size_t s, size_t n) {
     rank_put(t, row_start(s) + s, rank_get(t, row_start(s + 1) + s + 1));
 }
 
-static size_t fragment_keep_marks(size_t m, size_t n, const line *lines, uint16_t *work, size_t work_length, uint8_t *keep) {
+static size_t fragment_keep_marks(size_t m, const line *lines, uint16_t *work, size_t work_length, uint8_t *keep) {
     uint8_t reaches[STATES] = {0}, agrees[STATES] = {1};
     static uint64_t highs[PAIRS], lows[PAIRS];
     ranks t = {work, highs, lows};
     memset(work, 0, work_length * sizeof *work);
     memset(highs, 0, sizeof highs);
     memset(lows, 0, sizeof lows);
-    for (size_t s = 1; s <= m; s++) reaches[s] = reach(n, lines + s - 1);
+    for (size_t s = 1; s <= m; s++) reaches[s] = reach(lines + s - 1);
     size_t d = m;
     for (size_t i = m; i-- > 0;) {
-        size_t first = last_dead(reaches, line_start(n, lines + i), d < i ? d : i);
+        size_t first = last_dead(reaches, line_start(lines + i), d < i ? d : i);
         while (d > first) give_birth(t, --d, i + 1);
-        for (size_t s = 1; s <= i; s++) agrees[s] = agree(lines + s - 1, lines + i);
+        for (size_t s = d > 1 ? d : 1; s <= i; s++) agrees[s] = agree(lines + s - 1, lines + i);
         add_fragment(t, agrees, reaches, rank_single(1, i), i, d);
     }
     rank r = rank_get(t, 0);

@@ -39,7 +39,7 @@ static outcome least_fragment_removal(size_t n, const uint8_t *table, size_t len
     uint8_t cols[MOST], kept[MOST];
     memset(cols, 1, MOST);
     fill_lines(table, m, lines);
-    size_t count = fragment_keep_marks(m, n, lines, work, work_length, kept);
+    size_t count = fragment_keep_marks(m, lines, work, work_length, kept);
     phase(m, n, lines, cols, kept, NULL, answer);
     return accepted(count);
 }

@@ -19,7 +19,7 @@ use Rattle.ranks.specs.Algorithm.Reading.{value}
 use Rattle.ranks.specs.Algorithm.Tables.{Cleared}
 use Rattle.ranks.proofs.WeightLaws.{places-top, atMost-more}
 use Rattle.ranks.proofs.TableLaws.{parts-small, zeros-at}
-use Rattle.fragment_states.specs.Algorithm.Fragments.{Begins, stateReach, mayJoin}
+use Rattle.fragment_states.specs.Algorithm.Fragments.{Between, stateReach, mayJoin}
 use Rattle.fragment_pairs.specs.Algorithm.Layer.{furthest, withFragment}
 use Rattle.fragment_pairs.specs.Algorithm.Pairs.{corner, pairs, FragmentRoom, Made}
 use Rattle.fragment_pairs.proofs.PairLaws.{keep-same, furthest-range}
@@ -33,9 +33,9 @@ pub removal-of : {v : ℕ} (p : ℕ) → v ≡ 1 * top + place p → v ≡ remov
 removal-of p e = omega arith
 
 -- the marks of the states that a fragment agrees with
-pub begins-marks : (p : ℕ → Bool) (n : ℕ) (list : List ℕ) → Begins (λ s. bit (p s)) n list → (s : ℕ) → s < n → marked list s ≡ p s
+pub between-marks : (p : ℕ → Bool) (k n : ℕ) (list : List ℕ) → Between (λ s. bit (p s)) k n list → (s : ℕ) → k ≤ s → s < n → marked list s ≡ p s
 unfolding marked
-begins-marks p n list b s h = rw (b .begins s h) (same-test (0 <? bit (p s)) (p s) (bit-marked (p s)) (marked-bit (p s)))
+between-marks p k n list b s g h = rw (b .between s g h) (same-test (0 <? bit (p s)) (p s) (bit-marked (p s)) (marked-bit (p s)))
 
 -- a table of zeros
 pub zeros-pairs : (before counts : List ℕ) → Cleared before counts → (h l : ℕ) → pairs counts (replicate 8385 0) (replicate 8385 0) h l ≡ 0
@@ -88,7 +88,7 @@ module _ (g : Grid) where
         within s l h = omega arith
 
     -- one fragment more
-    pub holds-more : (may : ℕ → Bool) (reaches : ℕ → ℕ) (own : ℕ) (w : ℕ → ℕ → ℕ) → ((s : ℕ) → s < i + 1 → may s ≡ mayJoin g s i)
+    pub holds-more : (may : ℕ → Bool) (reaches : ℕ → ℕ) (own : ℕ) (w : ℕ → ℕ → ℕ) → ((s : ℕ) → d ≤ s → s < i + 1 → may s ≡ mayJoin g s i)
         → ((s : ℕ) → s < g .m + 1 → reaches s ≡ stateReach g s) → own ≡ removal i → Made (withFragment may reaches own i v) w d (i + 1) → HoldsFragments g (k + 1) d w
     holds-more may reaches own w joins reach eo made = record { holds = holds }
       where
@@ -100,7 +100,7 @@ module _ (g : Grid) where
             let hr = furthest-range reaches h i (omega arith) in
             let lr = furthest-range reaches l i (omega arith) in
             made .made h l dh dl (omega arith) (omega arith)
-            ∙ keep-same (joins h (omega arith)) (joins l (omega arith)) eo
+            ∙ keep-same (joins h dh (omega arith)) (joins l dl (omega arith)) eo
             (held .holds (furthest reaches h i) l (omega arith) dl (omega arith) (omega arith) ∙ ap (λ (x : ℕ). mostKept g k x l) (step h (omega arith)))
             (held .holds h (furthest reaches l i) dh (omega arith) (omega arith) (omega arith) ∙ ap (mostKept g k h) (step l (omega arith)))
             (held .holds h l dh dl (omega arith) (omega arith))

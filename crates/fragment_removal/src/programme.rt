@@ -89,7 +89,7 @@ fn extend(
     let dead = last_dead(n, masks, reaches, i, d);
     births(counts, highs, lows, dead, d, i + 1);
     let mut agrees = [0u8; 129];
-    fill_agreements(masks, i, &mut agrees);
+    fill_agreements(masks, dead, i, &mut agrees);
     let own = Rank::single(1, i);
     layer(counts, highs, lows, &agrees, reaches, own, i, dead);
     dead

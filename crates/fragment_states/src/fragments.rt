@@ -10,7 +10,7 @@ ghost use Rattle.fields.specs.Record.{isCall};
 ghost use Rattle.fields.specs.Writing.{callsEnd};
 ghost use Rattle.places.specs.Algorithm.Places.{placesWhere};
 ghost use Rattle.masks.specs.Algorithm.Masks.{codeIn, wordsGrid};
-ghost use Rattle.fragment_states.specs.Algorithm.Fragments.{Begins, stateReach, wordsAgree, wordsJoin};
+ghost use Rattle.fragment_states.specs.Algorithm.Fragments.{Begins, Between, stateReach, wordsAgree, wordsJoin};
 
 // Of the first n columns, those that a line calls.
 pub fn calls_below(n: usize, line: Line) -> Places
@@ -74,13 +74,13 @@ fn may_join(masks: &[u64], s: usize, i: usize) -> u8
     0
 }
 
-// The states that the fragment at position i agrees with, by the masks of the fragments.
-pub fn fill_agreements(masks: &[u64], i: usize, agrees: &mut [u8])
+// The states from `first` on that the fragment at position i agrees with, by the masks of the fragments.
+pub fn fill_agreements(masks: &[u64], first: usize, i: usize, agrees: &mut [u8])
     requires { ⌜ (length (now masks) ≡ 512) × (i < 128) × (length (now agrees) ≡ 129) ⌝ }
-    ensures { λ _. ⌜ Begins (λ s. bit (wordsJoin (now (masks .entry)) s i)) (i + 1) (now (agrees .exit)) ⌝ }
+    ensures { λ _. ⌜ Between (λ s. bit (wordsJoin (now (masks .entry)) s i)) first (i + 1) (now (agrees .exit)) ⌝ }
 {
     let states = i + 1;
-    let mut s = 0;
+    let mut s = first;
     while s < states {
         agrees[s] = may_join(masks, s, i);
         s += 1;

@@ -3,7 +3,7 @@
 use mathlib.Core.Path.{_≡_}
 use mathlib.Core.Bool.{Bool, true}
 use mathlib.Core.List.{List}
-use Prim.Native.Nat.{ℕ, zero, suc, _<_}
+use Prim.Native.Nat.{ℕ, zero, suc, _≤_, _<_}
 use Rattle.below.specs.Below.{isnt, nth}
 use Rattle.fields.specs.Writing.{callsEnd}
 use Rattle.conflicts.specs.Grid.{Grid, agree}
@@ -17,6 +17,10 @@ reach g p = callsEnd (g .n) (g .cell p)
 -- a list begins with f 0, …, f (n - 1)
 pub record Begins (f : ℕ → ℕ) (n : ℕ) (list : List ℕ) : Type 0 where
   pub begins : (i : ℕ) → i < n → nth list i ≡ f i
+
+-- a list has f k, …, f (n - 1) at these places
+pub record Between (f : ℕ → ℕ) (k n : ℕ) (list : List ℕ) : Type 0 where
+  pub between : (i : ℕ) → k ≤ i → i < n → nth list i ≡ f i
 
 -- a side's state: 0 if no fragment is kept on it, and else one more than the position of the one "that reaches furthest"; how far that one reaches
 unfoldable pub stateReach : Grid → ℕ → ℕ

@@ -10,7 +10,7 @@ use Rattle.below.specs.Below.{nth}
 use Rattle.fragment_states.specs.Algorithm.Fragments.{stateReach, wordsJoin}
 use Rattle.fragment_states.proofs.ReadLaws.{words-join}
 use Rattle.fragment_pairs.specs.Algorithm.Pairs.{pairs}
-use Rattle.fragment_removal.proofs.HoldingLaws.{removal-of, begins-marks, holds-room, holds-more}
+use Rattle.fragment_removal.proofs.HoldingLaws.{removal-of, between-marks, holds-room, holds-more}
 use Rattle.fragment_removal.proofs.DeadLaws.{holds-born, dead-more}
 use Rattle.fragment_removal.proofs.programme.extend.Statement.{statement}
 use Rattle.fragment_removal.proofs.programme.extend.Tie as tie
@@ -73,7 +73,7 @@ returns c =
       let h = dead .ensures .1 in omega arith,
       dead-more g (a .k) (a .d) (omega arith) (s .pre .4) (a .reaches .now) (dead .result) i _ (dead .ensures .0) (s .pre .1) refl (p .reaching .begins) (dead .ensures .1) refl (dead .ensures .2),
       holds-more g (a .k) i (dead .result) _ (s .pre .1) refl held _ (nth (a .reaches .now)) (value (own .result)) _
-          (λ q h. begins-marks (λ q. wordsJoin (a .masks .now) q i) _ _ (fill-agreements .ensures) q h ∙ words-join g (a .masks .now) q i (p .masks) (omega arith) (omega (arith, s .pre .1)))
+          (λ q lo h. between-marks (λ q. wordsJoin (a .masks .now) q i) _ _ _ (fill-agreements .ensures) q lo h ∙ words-join g (a .masks .now) q i (p .masks) (omega arith) (omega (arith, s .pre .1)))
           (p .reaching .begins) (removal-of i (own .ensures)) (layer .ensures),
     )
 
