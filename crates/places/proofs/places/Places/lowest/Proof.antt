@@ -12,7 +12,7 @@ returns : tie.Need-returns
 returns c = lowest-low (c .before .before .args .self) (search needs) (search needs) (c .if1 .taken)
 
 add-result : tie.Need-add-result
-add-result c = record { fits = lt-of-le-of-lt (add-le-add (le-refl 64) (trailing-le 64 _)) (lit< tt) }
+add-result c = record { fits = lt-of-le-of-lt (add-le-add (le-refl _) (trailing-le 64 _)) (lit< tt) }
 
 returns-2 : tie.Need-returns-2
 returns-2 c = lowest-high (c .before .before .before .args .self) (search needs) (search needs) (c .before .if1 .left)
