@@ -2,7 +2,6 @@
 -- Assumes nothing.
 use mathlib.Core.Path.{refl}
 use Rattle.conflicts.specs.Grid.{gridOf}
-use Rattle.masks.specs.Algorithm.Masks.{Masks}
 use Rattle.correcting.proofs.TableCorrectionLaws.{filled-masks}
 use borrow.Author.Needs.{needs}
 use Rattle.correcting.proofs.calls.answer_sides.Statement.{statement}

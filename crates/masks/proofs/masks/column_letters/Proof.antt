@@ -1,9 +1,8 @@
 -- `masks::column_letters` meets its contract. The invariant: the two words have the letters of the fragments passed.
 -- Assumes nothing.
 use borrow.Author.Needs.{needs}
-use mathlib.Core.Bool.{Bool}
 use mathlib.Core.Path.{_≡_, refl, ap, _∙_}
-use Prim.Native.Nat.{ℕ, _+_, _-_, _≤_}
+use Prim.Native.Nat.{_+_, _-_, _≤_}
 use Rattle.places.specs.declared.lines.Line.{Line}
 use Rattle.places.specs.Algorithm.Words.{wordOf}
 use Rattle.places.specs.Algorithm.Places.{hasPlace}

@@ -2,7 +2,6 @@
 -- Assumes nothing.
 use borrow.Author.Needs.{needs}
 use mathlib.Core.Path.{ap, _∙_}
-use Rattle.places.specs.declared.places.Places.{Places}
 use Rattle.places.specs.Algorithm.Places.{bothOf, occupied, conflictKept}
 use Rattle.places.proofs.lines.conflict_kept.Statement.{statement}
 use Rattle.places.proofs.lines.conflict_kept.Tie as tie

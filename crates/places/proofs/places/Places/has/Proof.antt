@@ -1,7 +1,6 @@
 -- `places::Places::has` meets its contract.
 -- Assumes nothing.
 use borrow.Author.Needs.{needs}
-use native.Mathlib.Omega.{arith}
 use Rattle.below.specs.Below.{_==_}
 use Rattle.below.proofs.SearchLaws.{<?-true, <?-false}
 use Rattle.places.specs.Algorithm.Places.{hasPlace}
