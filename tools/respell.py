@@ -172,5 +172,6 @@ if __name__ == "__main__":
         text = library_if(text, True)
         open(f, "w").write(text)
     for f in EDITS:
-        open(f, "w").write(edit(open(f).read()))
+        text = edit(open(f).read())
+        open(f, "w").write(text)
     print(len(FIELDS), "fields:", " ".join(sorted(FIELDS.values())))
