@@ -1,9 +1,11 @@
 // The tally of a column (paper 001, section 3).
+#![tactic(auto)]
+
 ghost use Rattle.std.specs.Prelude.{◌≡◌};
 ghost use Rattle.conflicts.specs.Tally.{no_calls, one_more_of, tallied, mixed_tally};
 
 // How many A and how many B a column has.
-#[derive(Drop)]
+#[derive(Clone, Copy)]
 pub struct Tally {
     pub a: u32,
     pub b: u32,

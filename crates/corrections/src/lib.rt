@@ -1,4 +1,6 @@
 // The least corrections of a table of which at most 8 fragments cover a column, over its cell matrix.
+#![tactic(auto)]
+
 ghost use Rattle.std.specs.Prelude.{◌≡◌, length};
 ghost use Rattle.matrix.specs.Algorithm.Matrix.{matrix_grid, weighted_grid, Matrix, Weights};
 ghost use Rattle.conflicts.specs.Corrections.{cost, least_cost_sides_of};

@@ -11,7 +11,7 @@ use places::{Line, Places, with_four};
 const TWOS: [u8; 16] = [0, 1, 16, 17, 2, 3, 18, 19, 32, 33, 48, 49, 34, 35, 50, 51];
 
 // A word of the bits for A, and one of those for B.
-#[derive(Drop)]
+#[derive(Clone, Copy)]
 struct Words {
     a: u64,
     b: u64,

@@ -1,4 +1,5 @@
 // Records of 32 bytes: their fields, cells and letters, and their places in a table.
+#![tactic(auto)]
 
 mod fields;
 mod grades;

@@ -1,4 +1,6 @@
 // The services, for programs in Rattle and, as exports, for those in C and Rust.
+#![tactic(auto)]
+
 mod host;
 
 pub use correcting::least_corrections;

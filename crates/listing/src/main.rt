@@ -1,4 +1,6 @@
 // Reads a table from standard input and prints its listing.
+#![tactic(auto)]
+
 ghost use Rattle.std.specs.Prelude.{◌≡◌, ◌≤◌, length, take};
 ghost use Rattle.records.specs.Outcome.{accepted};
 ghost use Rattle.listing.specs.Algorithm.Appended.{Appended};

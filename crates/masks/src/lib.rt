@@ -1,4 +1,6 @@
 // Bit masks of a cell matrix: the places at which each of its lines, fragments or columns, has A and B.
+#![tactic(auto)]
+
 mod keep;
 mod masks;
 mod pairs;

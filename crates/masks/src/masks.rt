@@ -10,7 +10,7 @@ use fields::{letters_of, record_at, start};
 use places::{Line, Places, with_bit};
 
 // A word of the places that have A, and one of those that have B.
-#[derive(Drop)]
+#[derive(Clone, Copy)]
 struct Letters {
     a: u64,
     b: u64,

@@ -1,4 +1,6 @@
 // The cell matrix that the services work on.
+#![tactic(auto)]
+
 mod cells;
 mod room;
 mod rows;

@@ -1,4 +1,6 @@
 // Sets of places below 128 as two words, and two lines of letters compared by a few operations on words.
+#![tactic(auto)]
+
 mod digits;
 mod lines;
 mod places;

@@ -4,7 +4,7 @@ ghost use Rattle.places.specs.Algorithm.Places.{conflict_places, agree_places, e
 
 use crate::places::Places;
 
-#[derive(Drop)]
+#[derive(Clone, Copy)]
 pub struct Line {
     pub a: Places,
     pub b: Places,

@@ -4,7 +4,7 @@ ghost use Rattle.below.specs.Below.{bit, ◌<?◌, ◌≤?◌, ◌and◌, first_
 ghost use Rattle.places.specs.Algorithm.Words.{word_of};
 ghost use Rattle.places.specs.Algorithm.Places.{places_where, both_places, either_of, without_of, has_place, size, occupied};
 
-#[derive(Drop)]
+#[derive(Clone, Copy)]
 pub struct Places {
     pub low: u64,
     pub high: u64,

@@ -1,4 +1,6 @@
 // The fewest SNPs (S) and the fewest fragments (F) to remove. Each tests its rules, in the paper's order, and writes only once all of them are kept.
+#![tactic(auto)]
+
 mod fragments;
 mod snps;
 

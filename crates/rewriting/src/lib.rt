@@ -1,4 +1,6 @@
 // What C does behind its elimination: the cells and the records after correction.
+#![tactic(auto)]
+
 mod letters;
 mod table;
 

@@ -1,4 +1,6 @@
 // The spans of the fragments of a cell matrix; rule 12's column, which more than 8 of them cover; and where there is none, a slot below 8 for each.
+#![tactic(auto)]
+
 mod depth;
 mod grants;
 mod spans;

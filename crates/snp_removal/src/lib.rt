@@ -1,4 +1,6 @@
 // The least SNP removal of a gapless table, over its masks.
+#![tactic(auto)]
+
 ghost use Rattle.std.specs.Prelude.{◌≡◌, length, ◌≤◌};
 ghost use Rattle.conflicts.specs.Choice.{zeros};
 ghost use Rattle.matrix.specs.Algorithm.Matrix.{Gapless};

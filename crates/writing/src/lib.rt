@@ -1,4 +1,6 @@
 // Rows of cells, and the records written from them.
+#![tactic(auto)]
+
 mod layout;
 mod rows;
 

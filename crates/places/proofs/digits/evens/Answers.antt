@@ -1,6 +1,5 @@
 -- `digits::evens` meets its contract: step by step, the digits in groups of 1, 2, 4, 8, 16 and 32. The words that are kept were computed.
 -- Assumes nothing.
-use borrow.Author.Rules.{rules}
 use native.Mathlib.Omega.{arith}
 use mathlib.Core.Path.{refl}
 use mathlib.Core.Bool.{Bool}
@@ -8,17 +7,16 @@ use Prim.Native.Nat.{ℕ, ◌*◌}
 use Rattle.below.specs.Below.{◌=?◌}
 use Rattle.places.specs.Algorithm.Words.{word_of}
 use Rattle.places.proofs.GatherLaws.{even, evens-kept, gathered-is, together}
-use Rattle.places.proofs.digits.evens.Statement.{statement}
-use Rattle.places.proofs.digits.evens.Tie as tie
+use Rattle.places.proofs.digits.evens.Goals as goal
 
-returns : tie.Need-returns
+pub returns : goal.returns
 unfolding word_of even ◌=?◌
 returns c p e =
     let q : ℕ → Bool = λ k. p (2 * k) in
-    let twos = c.before.before.before.before.gathered in
-    let fours = c.before.before.before.gathered2 in
-    let eights = c.before.before.gathered3 in
-    let sixteens = c.before.gathered4 in
+    let twos = c.gathered-twos in
+    let fours = c.gathered-fours in
+    let eights = c.gathered-eights in
+    let sixteens = c.gathered-sixteens in
     together q
     (gathered-is 4 q 16 refl (omega arith) (λ k h l. omega arith)
     (gathered-is 3 q 8 refl (omega arith) (λ k h l. omega arith)
@@ -30,7 +28,4 @@ returns c p e =
     refl fours.ensures)
     refl eights.ensures)
     refl sixteens.ensures)
-    refl c.gathered5.ensures)
-
-pub evens-spec : {M : Type 1} → statement M
-evens-spec = tie.close (tie.spec (λ c κs. search rules) (λ c κs. search rules) (λ c κs. search rules) (λ c κs. search rules) (λ c κs. search rules) returns)
+    refl c.gathered.ensures)
