@@ -1,0 +1,8 @@
+use Rattle.fields.proofs.FieldLaws.{tag-bytes}
+use native.Mathlib.Omega.{arith}
+use borrow.Author.Rules.{rules}
+use Rattle.fields.proofs.fields.tag.Goals as goal
+
+pub returns : goal.returns
+returns c =
+    omega (arith, tag-bytes c.args.part.now)

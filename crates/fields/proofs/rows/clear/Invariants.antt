@@ -1,0 +1,13 @@
+use mathlib.Core.Path.{refl, ◌∙◌}
+use Prim.Native.Nat.{◌-◌}
+use native.Mathlib.Omega.{arith}
+use lib.ListN.{length}
+use borrow.Author.Rules.{rules}
+use Rattle.below.proofs.FillLaws.{Filled, filled_none, filled_more, filled-all, tab-const}
+use Rattle.fields.proofs.rows.clear.Given as goal
+
+abbrev pub invariant-loop-c : goal.invariant-loop-c
+invariant-loop-c l = Filled (length l.initial.row) (λ j. 0) l.c l.row
+
+abbrev pub decreases-loop-c : goal.decreases-loop-c
+decreases-loop-c l = length l.initial.row - l.c

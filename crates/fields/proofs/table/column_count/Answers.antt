@@ -1,0 +1,26 @@
+use mathlib.Core.List.{List}
+use Prim.Native.Nat.{ℕ, ◌+◌, ◌-◌, ◌≤◌}
+use mathlib.Core.Path.{◌≡◌, refl, ap, ◌∙◌}
+use Rattle.below.specs.Below.{max_below}
+use Rattle.fields.specs.Record.{start_of, span_of}
+use Rattle.fields.specs.Table.{fragments, record_bytes_at, column_count_of}
+use Rattle.below.proofs.BelowLaws.{max-more}
+use Rattle.fields.proofs.PartLaws.{part-record}
+use borrow.Author.Rules.{rules}
+use native.Mathlib.Omega.{arith}
+use Rattle.fields.proofs.table.column_count.Goals as goal
+
+pub loop-i-init : goal.loop-i-init
+unfolding fragments max_below
+loop-i-init c = (refl, search rules, refl)
+
+pub loop-i-preserved : goal.loop-i-preserved
+loop-i-preserved c =
+    let lp = c.loop-i in
+    let same = part-record _ lp.i _ c.record_at.ensures (omega arith) in
+    (lp.invariant.0, search rules, max-more lp.i _ lp.invariant.2 (c.end_column.ensures ∙ ap (λ (r : List ℕ). start_of r + span_of r) same) c.larger-n.ensures)
+
+pub returns : goal.returns
+unfolding column_count_of
+returns c =
+    let e : c.loop-i.i ≡ fragments c.args.table.now = omega arith in rw (← e) c.loop-i.invariant.2

@@ -1,0 +1,17 @@
+use mathlib.Core.List.{List}
+use Prim.Native.Nat.{ℕ, ◌+◌, ◌-◌, ◌≤◌}
+use mathlib.Core.Path.{◌≡◌, refl, ap, ◌∙◌}
+use Rattle.below.specs.Below.{max_below}
+use Rattle.fields.specs.Record.{start_of, span_of}
+use Rattle.fields.specs.Table.{fragments, record_bytes_at, column_count_of}
+use Rattle.below.proofs.BelowLaws.{max-more}
+use Rattle.fields.proofs.PartLaws.{part-record}
+use borrow.Author.Rules.{rules}
+use native.Mathlib.Omega.{arith}
+use Rattle.fields.proofs.table.column_count.Given as goal
+
+abbrev pub invariant-loop-i : goal.invariant-loop-i
+invariant-loop-i l = (l.m ≡ fragments l.table) × (l.i ≤ l.m) × (l.n ≡ max_below l.i (λ j. start_of (record_bytes_at l.table j) + span_of (record_bytes_at l.table j)))
+
+abbrev pub decreases-loop-i : goal.decreases-loop-i
+decreases-loop-i l = l.m - l.i
