@@ -1,0 +1,19 @@
+use native.Mathlib.Omega.{arith}
+use Prim.Native.Nat.{◌-◌, ◌≤◌}
+use mathlib.Core.Path.{◌≡◌, refl, sym, ap, ◌∙◌}
+use Rattle.fields.specs.Table.{fragments}
+use Rattle.records.specs.Outcome.{accepted, outcome_of}
+use Rattle.records.specs.Rules.{decide}
+use Rattle.records.specs.Algorithm.Kept.{rules_of}
+use Rattle.below.specs.Below.{tab, concat}
+use Rattle.records.proofs.RuleLaws.{from_row, rows-begin, rows_end, row_kept, row-broken}
+use borrow.Author.Rules.{rules}
+use Rattle.records.proofs.rules.first_fault.Given as goal
+
+abbrev pub invariant-loop-i : goal.invariant-loop-i
+invariant-loop-i l = (l.m ≡ fragments l.table)
+    × (l.i ≤ l.m)
+    × (decide (concat (tab (fragments l.table) (rules_of l.gapless l.n l.table))) (accepted (fragments l.table)) ≡ from_row (rules_of l.gapless l.n l.table) (accepted (fragments l.table)) l.i l.m)
+
+abbrev pub decreases-loop-i : goal.decreases-loop-i
+decreases-loop-i l = l.m - l.i
