@@ -159,7 +159,7 @@ module _ {A : Type 0} where
       let c = concat-at (map (λ o. map (λ k. o ∷ k) (choices rest)) options) m in
       let o = map_at (λ o. map (λ k. o ∷ k) (choices rest)) options c.1 in
       let k = map_at (λ k. o.0 ∷ k) (choices rest) (subst (λ (ls : List (List A)). Memᴰ l ls) o.2 c.2) in
-      subst (λ (j : List A). Picks j (options ∷ rest)) (sym k.2) (pick o.1 (choices-at rest k.1))
+      subst (λ (j : List A). Picks j (options ∷ rest)) (sym k.2) (pick o.1 (choices-at {l = k.0} rest k.1))
 
   -- … place by place
   pub picks_of : (d : A) (l : List A) (options : List (List A)) → length l ≡ length options
