@@ -1,0 +1,15 @@
+-- `layout::fill_cells` meets its contract. The loop's invariant: the first b bytes are those of the cells.
+-- Assumes nothing.
+use mathlib.Core.Path.{sym, ◌∙◌}
+use Prim.Native.Nat.{◌-◌}
+use native.Mathlib.Omega.{arith}
+use Rattle.below.proofs.FillLaws.{Filled, filled_none, filled_more, filled-all}
+use Rattle.fields.specs.Writing.{cell_bytes, codes_of}
+use Rattle.writing.proofs.LayoutLaws.{cell_byte_of}
+use Rattle.writing.proofs.layout.fill_cells.Given as goal
+
+abbrev pub invariant-loop-b : goal.invariant-loop-b
+invariant-loop-b l = Filled 24 (cell_byte_of (codes_of l.calls)) l.b l.cells
+
+abbrev pub decreases-loop-b : goal.decreases-loop-b
+decreases-loop-b l = 24 - l.b
