@@ -1,0 +1,10 @@
+-- `Rank::lesser_if` meets its contract.
+-- Assumes nothing.
+use borrow.Author.Rules.{rules}
+use Rattle.ranks.proofs.rank.Rank.lesser_if.Goals as goal
+
+pub returns-then-may : goal.returns-then-may
+returns-then-may c = rw c.if-may.true c.lesser.ensures
+
+pub returns : goal.returns
+returns c = rw c.if-may.false
