@@ -1,0 +1,36 @@
+-- `rows::copy` meets its contract. The invariant: the bytes passed are copied.
+use native.Mathlib.Omega.{arith}
+use borrow.Author.Rules.{rules}
+use Prim.Native.Nat.{◌-◌}
+use mathlib.Core.Path.{refl}
+use lib.ListN.{length, get_or}
+use lib.Seq.{ext_get_or}
+use Rattle.below.proofs.FillLaws.{Filled, filled_none, filled_more}
+use Rattle.matrix.proofs.rows.copy.Goals as goal
+
+pub loop-i-init : goal.loop-i-init
+loop-i-init c = filled_none _ _ _ refl
+
+pub bounds-from-i : goal.bounds-from-i
+bounds-from-i c = let e = c.loop-i.invariant.sized in search rules
+
+pub overflow_add-i : goal.overflow_add-i
+overflow_add-i c =
+    let e = c.loop-i.invariant.sized in omega (arith, c.well_formed)
+
+pub loop-i-smaller : goal.loop-i-smaller
+loop-i-smaller c = let e = c.loop-i.invariant.sized in search rules
+
+pub loop-i-preserved : goal.loop-i-preserved
+loop-i-preserved c =
+    let loop = c.loop-i in
+    let e = loop.invariant.sized in filled_more _ _ loop.i loop.to _ loop.invariant (omega arith) refl
+
+pub shape_of-to : goal.shape_of-to
+shape_of-to c = c.loop-i.invariant.sized
+
+pub returns : goal.returns
+returns c =
+    let lp = c.loop-i in
+    let e = lp.invariant.sized in
+    ext_get_or 0 lp.to c.args.from.now (omega (arith, c.requires)) (λ k h. lp.invariant.done k (omega arith))

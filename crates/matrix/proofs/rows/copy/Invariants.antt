@@ -1,0 +1,16 @@
+-- `rows::copy` meets its contract. The invariant: the bytes passed are copied.
+-- Assumes nothing.
+use native.Mathlib.Omega.{arith}
+use borrow.Author.Rules.{rules}
+use Prim.Native.Nat.{◌-◌}
+use mathlib.Core.Path.{refl}
+use lib.ListN.{length, get_or}
+use lib.Seq.{ext_get_or}
+use Rattle.below.proofs.FillLaws.{Filled, filled_none, filled_more}
+use Rattle.matrix.proofs.rows.copy.Given as goal
+
+abbrev pub invariant-loop-i : goal.invariant-loop-i
+invariant-loop-i l = Filled (length l.initial.to) (λ k. get_or l.from k 0) l.i l.to
+
+abbrev pub decreases-loop-i : goal.decreases-loop-i
+decreases-loop-i l = length l.initial.to - l.i
