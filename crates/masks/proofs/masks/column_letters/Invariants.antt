@@ -1,0 +1,17 @@
+-- `masks::column_letters` meets its contract. The invariant: the two words have the letters of the fragments passed.
+-- Assumes nothing.
+use borrow.Author.Rules.{rules}
+use mathlib.Core.Path.{◌≡◌, refl, ap, ◌∙◌}
+use Prim.Native.Nat.{◌+◌, ◌-◌, ◌≤◌}
+use Rattle.places.specs.declared.lines.Line.{Line}
+use Rattle.places.specs.Algorithm.Words.{word_of}
+use Rattle.places.specs.Algorithm.Places.{has_place}
+use Rattle.places.proofs.WordLaws.{word_below, word_next, word_end}
+use Rattle.masks.specs.Algorithm.Masks.{line_at}
+use Rattle.masks.proofs.masks.column_letters.Given as goal
+
+abbrev pub invariant-loop-k : goal.invariant-loop-k
+invariant-loop-k l = (l.k ≤ 64) × (l.a ≡ word_of l.k (λ b'. has_place (line_at l.masks (l.start + b')).a l.c)) × (l.b ≡ word_of l.k (λ b'. has_place (line_at l.masks (l.start + b')).b l.c))
+
+abbrev pub decreases-loop-k : goal.decreases-loop-k
+decreases-loop-k l = 64 - l.k
