@@ -1,0 +1,18 @@
+-- `spans::start_of` meets its contract. The loop's invariant: no column passed is called.
+-- Assumes nothing.
+use mathlib.Core.Path.{sym, ◌∙◌}
+use Prim.Native.Nat.{ℕ, ◌+◌, ◌*◌, ◌-◌, ◌≤◌}
+use native.Mathlib.Omega.{arith}
+use lib.ListN.{get_or}
+use borrow.Author.Rules.{rules}
+use Rattle.fields.specs.Record.{is_call_code}
+use Rattle.below.proofs.SearchLaws.{NoneBelow, none_yet, none_more, first-hit, first-none}
+use Rattle.matrix.specs.Algorithm.Matrix.{matrix_grid}
+use Rattle.slots.specs.Algorithm.Columns.{first_column}
+use Rattle.slots.proofs.spans.start_of.Given as goal
+
+abbrev pub invariant-loop-c : goal.invariant-loop-c
+invariant-loop-c l = (l.c ≤ l.n) × NoneBelow l.c (λ (k : ℕ). is_call_code (get_or l.cells (l.i * 128 + k) 0))
+
+abbrev pub decreases-loop-c : goal.decreases-loop-c
+decreases-loop-c l = l.n - l.c
