@@ -1,0 +1,66 @@
+-- `copying::birth` meets its contract. The loop's invariant: state s has the weights of the next state with the states below h.
+use mathlib.Core.Path.{◌≡◌, refl}
+use Prim.Native.Nat.{ℕ, ◌+◌, ◌-◌, ◌≤◌, ◌<◌}
+use native.Mathlib.Nat.{le_refl}
+use native.Mathlib.Omega.{arith}
+use lib.ListN.{length}
+use borrow.Author.Rules.{rules}
+use Rattle.ranks.specs.Algorithm.Tables.{at}
+use Rattle.fragment_pairs.specs.Algorithm.Pairs.{Born}
+use Rattle.fragment_pairs.proofs.CornerLaws.{row_inside}
+use Rattle.fragment_pairs.proofs.BirthLaws.{born-none, born-more, born-all}
+use Rattle.fragment_pairs.proofs.copying.birth.Goals as goal
+use Rattle.fragment_pairs.proofs.copying.birth.Goals.{After-row_start-own, After-row_start-start}
+
+pub loop-h-init : goal.loop-h-init
+loop-h-init c = (search rules, search rules, refl, refl, refl, born-none _ _)
+
+inside : (c : After-row_start-start) (l : ℕ) → l ≤ c.loop-h.h → c.row_start-start.result + l < 8385
+inside c l lh = row_inside c.loop-h.h l c.row_start-start.ensures lh (omega arith)
+
+pub overflow_add-start : goal.overflow_add-start
+overflow_add-start c = let k = inside (goal.at.overflow_add-start c).After-row_start-start (c.args.s + 1) (omega arith) in search rules
+
+pub overflow_add-start-in-loop-h : goal.overflow_add-start-in-loop-h
+overflow_add-start-in-loop-h c = let k = inside (goal.at.overflow_add-start-in-loop-h c).After-row_start-start c.args.s (omega arith) in search rules
+
+pub copy-requires : goal.copy-requires
+copy-requires c =
+    let p = c.requires in
+    let from = inside (goal.at.copy-requires c).After-row_start-start (c.args.s + 1) (omega arith) in
+    let j = inside (goal.at.copy-requires c).After-row_start-start c.args.s (omega arith) in (
+      record { in_counts = let z = p.0.counts_size in search rules; in_highs = let z = p.0.highs_size in search rules; in_lows = let z = p.0.lows_size in search rules },
+      record { in_counts = let z = p.0.counts_size in search rules; in_highs = let z = p.0.highs_size in search rules; in_lows = let z = p.0.lows_size in search rules },
+    )
+
+pub loop-h-preserved : goal.loop-h-preserved
+loop-h-preserved c =
+    let copy = c.copy in
+    let l = c.loop-h in
+    let a = c.args in
+    (search rules, search rules, search rules, search rules, search rules, born-more a.s l.h l.invariant.5 l.invariant.0 c.row_start-start.ensures copy.ensures)
+
+inside-own : (c : After-row_start-own) → (c.row_start-other.result + (c.args.s + 1) < 8385) × (c.row_start-own.result + c.args.s < 8385)
+inside-own c =
+    let s = c.args.s in
+    (row_inside (s + 1) (s + 1) c.row_start-other.ensures (le_refl (s + 1)) (omega arith), row_inside s s c.row_start-own.ensures (le_refl s) (omega arith))
+
+pub overflow_add-other : goal.overflow_add-other
+overflow_add-other c = let k = inside-own (goal.at.overflow_add-other c).After-row_start-own in search rules
+
+pub overflow_add-own : goal.overflow_add-own
+overflow_add-own c = let k = inside-own (goal.at.overflow_add-own c).After-row_start-own in search rules
+
+pub copy-requires-2 : goal.copy-requires-2
+copy-requires-2 c =
+    let p = c.requires in
+    let k = inside-own (goal.at.copy-requires-2 c).After-row_start-own in (
+      record { in_counts = let z = p.0.counts_size in search rules; in_highs = let z = p.0.highs_size in search rules; in_lows = let z = p.0.lows_size in search rules },
+      record { in_counts = let z = p.0.counts_size in search rules; in_highs = let z = p.0.highs_size in search rules; in_lows = let z = p.0.lows_size in search rules },
+    )
+
+pub returns : goal.returns
+returns c =
+    let l = c.loop-h in
+    let a = c.args in
+    born-all a.s a.n l.h l.invariant.5 c.loop-h-test.false c.row_start-own.ensures c.row_start-other.ensures c.copy-2.ensures

@@ -1,0 +1,11 @@
+-- `weights::is_marked` meets its contract.
+-- Assumes nothing.
+use mathlib.Core.Path.{refl}
+use borrow.Author.Rules.{rules}
+use Rattle.below.specs.Below.{◌<?◌}
+use Rattle.conflicts.specs.Choice.{marked}
+use Rattle.fragment_pairs.proofs.weights.is_marked.Goals as goal
+
+pub returns : goal.returns
+unfolding marked ◌<?◌
+returns c = refl
