@@ -1,0 +1,15 @@
+-- `quick_find::alone` meets its contract. The invariant: the fragments passed are by themselves, on side 1.
+-- Assumes nothing.
+use native.Mathlib.Omega.{arith}
+use borrow.Author.Rules.{rules}
+use Prim.Native.Nat.{◌-◌, ◌≤◌}
+use mathlib.Core.Path.{◌≡◌}
+use Rattle.components.proofs.SweepLaws.{Remade, sweep-none, sweep-set}
+use Rattle.components.proofs.StepLaws.{own_label_of, own_side_of, begun}
+use Rattle.components.proofs.quick_find.alone.Given as goal
+
+abbrev pub invariant-loop-k : goal.invariant-loop-k
+invariant-loop-k l = (l.k ≤ l.m) × Remade (own_label_of l.frags) l.initial.labels l.labels l.k × Remade (own_side_of l.frags) l.initial.sides l.sides l.k
+
+abbrev pub decreases-loop-k : goal.decreases-loop-k
+decreases-loop-k l = l.m - l.k

@@ -1,0 +1,13 @@
+-- `letters::correct_row` meets its contract. The invariant: the columns passed hold their cells.
+-- Assumes nothing.
+use borrow.Author.Rules.{rules}
+use Prim.Native.Nat.{◌-◌}
+use Rattle.below.proofs.FillLaws.{Filled, filled_none, filled_more, filled-all}
+use Rattle.rewriting.specs.Algorithm.Letters.{lettered_in}
+use Rattle.rewriting.proofs.letters.correct_row.Given as goal
+
+abbrev pub invariant-loop-c : goal.invariant-loop-c
+invariant-loop-c l = Filled 128 (lettered_in l.n l.cells l.at l.side l.first l.second) l.c l.row
+
+abbrev pub decreases-loop-c : goal.decreases-loop-c
+decreases-loop-c l = 128 - l.c

@@ -1,0 +1,17 @@
+-- `letters::letter_totals` meets its contract. The invariant: the totals are those of the fragments passed.
+-- Assumes nothing.
+use borrow.Author.Rules.{rules}
+use mathlib.Core.Path.{◌≡◌, sym, subst, ap, ◌∙◌}
+use mathlib.Core.List.{List}
+use Prim.Native.Nat.{ℕ, ◌-◌, ◌≤◌, zero-le}
+use native.Mathlib.Omega.{arith}
+use lib.ListN.{length}
+use Rattle.rewriting.specs.Algorithm.Letters.{Totals}
+use Rattle.rewriting.proofs.LetterLaws.{totals-none}
+use Rattle.rewriting.proofs.letters.letter_totals.Given as goal
+
+abbrev pub invariant-loop-i : goal.invariant-loop-i
+invariant-loop-i l = (l.i ≤ l.m) × Totals l.cells l.weights l.sides l.s l.letter l.i l.totals
+
+abbrev pub decreases-loop-i : goal.decreases-loop-i
+decreases-loop-i l = l.m - l.i

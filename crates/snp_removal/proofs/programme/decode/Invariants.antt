@@ -1,0 +1,15 @@
+-- `programme::decode` meets its contract. The loop's invariant: the marks below p are written.
+-- Assumes nothing.
+use mathlib.Core.Path.{ap}
+use Prim.Native.Nat.{ℕ, ◌-◌}
+use borrow.Author.Rules.{rules}
+use Rattle.below.proofs.FillLaws.{Filled, filled_none, filled_more, filled-all}
+use Rattle.ranks.specs.Algorithm.Weight.{digit_at}
+use Rattle.ranks.specs.Algorithm.Reading.{code}
+use Rattle.snp_removal.proofs.programme.decode.Given as goal
+
+abbrev pub invariant-loop-p : goal.invariant-loop-p
+invariant-loop-p l = Filled l.n (λ (q : ℕ). 1 - digit_at (code l.r) q) l.p l.keep
+
+abbrev pub decreases-loop-p : goal.decreases-loop-p
+decreases-loop-p l = l.n - l.p
