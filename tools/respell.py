@@ -147,12 +147,13 @@ EDITS = glob.glob("crates/*/must-fail/*.edit")
 DECLARATION = re.compile(r"(?m)^ *(?:(?:pub|abbrev|unfoldable) )*([^\s(){}.;,@\"«»:λ]+)(?: \{[^{}\n]*\})* :(?= )")
 DECLARED = {m[1] for f in ANTT for m in DECLARATION.finditer(open(f).read())}
 FIELDS = {}
+BESIDE = {"cells-left": "cells_are", "tags-left": "tags_are", "grades-left": "grades_are", "table-left": "table_is"}  # of records with bound names spelled so
 for f in ANTT:
     body = open(f).read()
     for m in re.finditer(r"(?m)^( *)pub record [^\n]*where\n((?:\1 +[^\n]*\n|\n)*)", body):
         for n in DECLARATION.finditer(m[2]):
             if "-" in n[1]:
-                FIELDS[n[1]] = n[1].replace("-", "_")
+                FIELDS[n[1]] = BESIDE.get(n[1], n[1].replace("-", "_"))
 
 def below(text):
     """Crate below loses its own if then else."""

@@ -85,9 +85,9 @@ module _ (n m : ℕ) (table cells tags grades cells_left tags_left grades_left o
 
   packs-unpacked : PackCall n (unpacked_cells n table) (unpacked_tags table) (unpacked_grades table) out second table_left
   packs-unpacked =
-      subst (λ (c : List ℕ). PackCall n c (unpacked_tags table) (unpacked_grades table) out second table_left) (unpacks.cells_left ∙ left-cells n m table cells tags grades taken)
-      (subst (λ (t : List ℕ). PackCall n cells_left t (unpacked_grades table) out second table_left) (unpacks.tags_left ∙ left-tags n m table cells tags grades taken)
-      (subst (λ (g : List ℕ). PackCall n cells_left tags_left g out second table_left) (unpacks.grades_left ∙ left-grades n m table cells tags grades taken) packs))
+      subst (λ (c : List ℕ). PackCall n c (unpacked_tags table) (unpacked_grades table) out second table_left) (unpacks.cells_are ∙ left-cells n m table cells tags grades taken)
+      (subst (λ (t : List ℕ). PackCall n cells_left t (unpacked_grades table) out second table_left) (unpacks.tags_are ∙ left-tags n m table cells tags grades taken)
+      (subst (λ (g : List ℕ). PackCall n cells_left tags_left g out second table_left) (unpacks.grades_are ∙ left-grades n m table cells tags grades taken) packs))
 
   verdict : second ≡ by_calls table (fragments table)
   verdict = packs-unpacked.outcome ∙ unpacked-verdict n table sizes records out exact
@@ -98,7 +98,7 @@ module _ (n m : ℕ) (table cells tags grades cells_left tags_left grades_left o
       record {
         accepts = done;
         restores =
-            packs-unpacked.table_left
+            packs-unpacked.table_is
             ∙ sym (pack-accepts n _ _ _ out _ (sym packs-unpacked.outcome ∙ done)).1
             ∙ table-again n table (whole-records n table _ _ sizes.kept) bytes.fits (sound n table sizes records);
       }
@@ -106,7 +106,7 @@ module _ (n m : ℕ) (table cells tags grades cells_left tags_left grades_left o
   refused-empty : (i : ℕ) → FirstEmpty table i → EmptyRefused i out second table_left
   refused-empty i empty =
       let done = verdict ∙ places-refused _ _ (fragments table) i empty in
-      record { refuses = done; untouched = packs-unpacked.table_left ∙ pack-refused n 17 i _ _ _ out (sym packs-unpacked.outcome ∙ done) }
+      record { refuses = done; untouched = packs-unpacked.table_is ∙ pack-refused n 17 i _ _ _ out (sym packs-unpacked.outcome ∙ done) }
 
 -- every table of bytes that unpack accepts, with calls in each record, is restored, byte for byte, by packing what unpack gives
 pub table-round : UnpackThenPack
@@ -163,20 +163,20 @@ cells-round n m cells tags grades table table_left cells_out tags_out grades_out
     let sized = accepted-sizes n cells tags grades table m e in
     let kept = accepted-fragments n cells tags grades table m e in
     let done = unpack-packed n cells tags grades sized kept bits.fits cells_out tags_out grades_out same-cells same-tags same-grades in
-    let a = packs.table_left ∙ sym (pack-accepts n cells tags grades table m e).1 in
+    let a = packs.table_is ∙ sym (pack-accepts n cells tags grades table m e).1 in
     let whole = packable n cells tags grades sized kept bits.fits in
     record {
       accepts = unpacks.outcome ∙ rw a done;
-      restores_cells = unpacks.cells_left ∙ rw a (left-cells n _ (packed n cells tags grades) cells_out tags_out grades_out done ∙ unpacked-again n cells tags grades whole);
-      restores_tags = unpacks.tags_left ∙ rw a (left-tags n _ (packed n cells tags grades) cells_out tags_out grades_out done ∙ tags-again n cells tags grades whole);
-      restores_grades = unpacks.grades_left ∙ rw a (left-grades n _ (packed n cells tags grades) cells_out tags_out grades_out done ∙ grades-again n cells tags grades whole);
+      restores_cells = unpacks.cells_are ∙ rw a (left-cells n _ (packed n cells tags grades) cells_out tags_out grades_out done ∙ unpacked-again n cells tags grades whole);
+      restores_tags = unpacks.tags_are ∙ rw a (left-tags n _ (packed n cells tags grades) cells_out tags_out grades_out done ∙ tags-again n cells tags grades whole);
+      restores_grades = unpacks.grades_are ∙ rw a (left-grades n _ (packed n cells tags grades) cells_out tags_out grades_out done ∙ grades-again n cells tags grades whole);
     }
 
 -- a table that pack writes has calls in each record
 pub packed-calls : PackWritesCalls
 packed-calls n m cells tags grades table table_left verdict packs accepts i l =
     let e = sym packs.outcome ∙ accepts in
-    let left = packs.table_left ∙ sym (pack-accepts n cells tags grades table m e).1 in
+    let left = packs.table_is ∙ sym (pack-accepts n cells tags grades table m e).1 in
     let count = ap fragments left ∙ fragments-packed n cells tags grades in
     let inside : i < length tags = omega arith in
     let some = kept-calls (accepted-fragments n cells tags grades table m e) i inside in

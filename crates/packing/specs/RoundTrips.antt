@@ -14,14 +14,14 @@ pub record NumbersBelow (bound : ℕ) (list : List ℕ) : Type 0 where
 -- a call of unpack, its outcome, and what it left in the cells, the tags and the grades
 pub record UnpackCall (n : ℕ) (table cells tags grades : List ℕ) (verdict : Verdict) (cells_left tags_left grades_left : List ℕ) : Type 0 where
   pub outcome : verdict ≡ (unpack_leaves n table cells tags grades).outcome
-  pub cells_left : cells_left ≡ (unpack_leaves n table cells tags grades).cells
-  pub tags_left : tags_left ≡ (unpack_leaves n table cells tags grades).tags
-  pub grades_left : grades_left ≡ (unpack_leaves n table cells tags grades).grades
+  pub cells_are : cells_left ≡ (unpack_leaves n table cells tags grades).cells
+  pub tags_are : tags_left ≡ (unpack_leaves n table cells tags grades).tags
+  pub grades_are : grades_left ≡ (unpack_leaves n table cells tags grades).grades
 
 -- a call of pack, its outcome, and what it left in the table
 pub record PackCall (n : ℕ) (cells tags grades table : List ℕ) (verdict : Verdict) (table_left : List ℕ) : Type 0 where
   pub outcome : verdict ≡ (pack_leaves n cells tags grades table).outcome
-  pub table_left : table_left ≡ (pack_leaves n cells tags grades table).table
+  pub table_is : table_left ≡ (pack_leaves n cells tags grades table).table
 
 -- pack accepts, and leaves the very table that was unpacked
 pub record TableRestored (table : List ℕ) (verdict : Verdict) (table_left : List ℕ) : Type 0 where
