@@ -1,0 +1,44 @@
+-- `packing::fragments_fault` meets its contract. The loop's invariant: the verdict is that of the fragments from i on.
+use mathlib.Core.Path.{◌≡◌, refl, sym, ap, ◌∙◌}
+use Prim.Native.Nat.{ℕ, ◌+◌, ◌-◌, ◌≤◌, ◌<◌}
+use native.Mathlib.Omega.{arith}
+use lib.ListN.{length}
+use borrow.Author.Rules.{rules}
+use Rattle.records.proofs.RuleLaws.{from_row, rows-begin, rows_end, row_kept, row-broken}
+use Rattle.records.specs.Rules.{decide}
+use Rattle.records.specs.Outcome.{accepted, outcome_of}
+use Rattle.conflicts.specs.Services.{packed_start, fragment_rules}
+use Rattle.packing.specs.Algorithm.Sizes.{fragments_rules}
+use Rattle.packing.proofs.SizeLaws.{pack-n, pack-m, pack-row}
+use Rattle.packing.proofs.packing.fragments_fault.Goals as goal
+
+one_less : (i : ℕ) → i + 1 - 1 ≡ i
+one_less i = omega arith
+
+pub loop-i-init : goal.loop-i-init
+unfolding fragments_rules
+loop-i-init c = (refl, search rules, λ h. absurd (omega arith), rows-begin _ _ _)
+
+pub start_of-start-requires : goal.start_of-start-requires
+start_of-start-requires c =
+    let sized = c.requires in
+    let few = pack-m sized in
+    let e = c.loop-i.invariant.0 in
+    (pack-n sized, omega arith, pack-row sized c.loop-i.i (omega arith))
+
+pub fragment_fault-fault-requires : goal.fragment_fault-fault-requires
+fragment_fault-fault-requires c =
+    record { pack_sized = c.requires; i_in_bounds = search rules; starts = record { here = c.start_of-start.ensures; before = c.loop-i.invariant.2 } }
+
+pub returns-in-Refused : goal.returns-in-Refused
+returns-in-Refused c =
+    let lp = c.loop-i in
+    sym (lp.invariant.3 ∙ row-broken _ _ lp.i _ 0 _ _ (omega arith) (sym c.fragment_fault-fault.ensures ∙ ap outcome_of c.in-Refused.is))
+
+pub loop-i-preserved : goal.loop-i-preserved
+loop-i-preserved c =
+    let lp = c.loop-i in
+    (lp.invariant.0, search rules, λ h. c.start_of-start.ensures ∙ ap (packed_start _ _) (sym (one_less lp.i)), lp.invariant.3 ∙ row_kept _ _ lp.i _ 0 _ (omega arith) (sym c.fragment_fault-fault.ensures ∙ ap outcome_of c.in_default.is))
+
+pub returns : goal.returns
+returns c = ap accepted c.loop-i.invariant.0 ∙ sym (c.loop-i.invariant.3 ∙ rows_end _ _ c.loop-i.i _ (omega arith))

@@ -1,0 +1,23 @@
+-- `packing::fragments_fault` meets its contract. The loop's invariant: the verdict is that of the fragments from i on.
+-- Assumes nothing.
+use mathlib.Core.Path.{◌≡◌, refl, sym, ap, ◌∙◌}
+use Prim.Native.Nat.{ℕ, ◌+◌, ◌-◌, ◌≤◌, ◌<◌}
+use native.Mathlib.Omega.{arith}
+use lib.ListN.{length}
+use borrow.Author.Rules.{rules}
+use Rattle.records.proofs.RuleLaws.{from_row, rows-begin, rows_end, row_kept, row-broken}
+use Rattle.records.specs.Rules.{decide}
+use Rattle.records.specs.Outcome.{accepted, outcome_of}
+use Rattle.conflicts.specs.Services.{packed_start, fragment_rules}
+use Rattle.packing.specs.Algorithm.Sizes.{fragments_rules}
+use Rattle.packing.proofs.SizeLaws.{pack-n, pack-m, pack-row}
+use Rattle.packing.proofs.packing.fragments_fault.Given as goal
+
+abbrev pub invariant-loop-i : goal.invariant-loop-i
+invariant-loop-i l = (l.m ≡ length l.tags)
+    × (l.i ≤ l.m)
+    × (0 < l.i → l.last ≡ packed_start l.n l.cells (l.i - 1))
+    × (decide (fragments_rules l.n l.cells l.tags l.grades) (accepted (length l.tags)) ≡ from_row (fragment_rules l.n l.cells l.tags l.grades) (accepted (length l.tags)) l.i l.m)
+
+abbrev pub decreases-loop-i : goal.decreases-loop-i
+decreases-loop-i l = l.m - l.i

@@ -1,0 +1,17 @@
+-- `packing::tag_before` meets its contract. The loop's invariant: no fragment before h has the tag sought.
+-- Assumes nothing.
+use mathlib.Core.Path.{◌≡◌, refl, sym, ◌∙◌}
+use Prim.Native.Nat.{◌-◌, ◌≤◌}
+use native.Mathlib.Omega.{arith}
+use lib.ListN.{get_or}
+use borrow.Author.Rules.{rules}
+use Rattle.records.specs.Rules.{tag_twice}
+use Rattle.below.specs.Below.{◌=?◌}
+use Rattle.below.proofs.SearchLaws.{NoneBelow, none_yet, none_more, any-hit, any_none, =?-true, =?-false}
+use Rattle.packing.proofs.packing.tag_before.Given as goal
+
+abbrev pub invariant-loop-h : goal.invariant-loop-h
+invariant-loop-h l = (l.h ≤ l.i) × (l.sought ≡ get_or l.tags l.i 0) × NoneBelow l.h (λ j. get_or l.tags j 0 =? get_or l.tags l.i 0)
+
+abbrev pub decreases-loop-h : goal.decreases-loop-h
+decreases-loop-h l = l.i - l.h
