@@ -1,0 +1,16 @@
+-- `programme::decode` meets its contract. The loop's invariant: the marks below p are written.
+use Prim.Native.Nat.{ℕ, ◌-◌}
+use borrow.Author.Rules.{rules}
+use Rattle.below.proofs.FillLaws.{Filled, filled_none, filled_more, filled-all}
+use Rattle.ranks.specs.Algorithm.Weight.{digit_at}
+use Rattle.ranks.specs.Algorithm.Reading.{code}
+use Rattle.fragment_removal.proofs.programme.decode.Goals as goal
+
+pub loop-p-init : goal.loop-p-init
+loop-p-init c = filled_none _ _ _ c.requires.1
+
+pub loop-p-preserved : goal.loop-p-preserved
+loop-p-preserved c = let l = c.loop-p in filled_more _ _ l.p l.keep _ l.invariant c.loop-p-test.true c.digit.ensures
+
+pub returns : goal.returns
+returns c = let l = c.loop-p in filled-all _ _ l.p l.keep l.invariant c.loop-p-test.false

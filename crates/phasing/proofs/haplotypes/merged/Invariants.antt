@@ -1,0 +1,14 @@
+-- `haplotypes::merged` meets its contract. The invariant: the lines of the fragments passed are merged.
+-- Assumes nothing.
+use borrow.Author.Rules.{rules}
+use mathlib.Core.Path.{◌≡◌, refl}
+use Prim.Native.Nat.{◌-◌, ◌≤◌}
+use Rattle.phasing.specs.Algorithm.Haplotypes.{merged_line}
+use Rattle.phasing.proofs.HaplotypeLaws.{merged-more, merged-end}
+use Rattle.phasing.proofs.haplotypes.merged.Given as goal
+
+abbrev pub invariant-loop-i : goal.invariant-loop-i
+invariant-loop-i l = (l.i ≤ l.m) × (l.line ≡ merged_line l.masks l.sides l.s l.i)
+
+abbrev pub decreases-loop-i : goal.decreases-loop-i
+decreases-loop-i l = l.m - l.i
