@@ -1,0 +1,17 @@
+-- `host::haplotypes_least_snp_removal` meets its contract.
+-- Assumes nothing.
+use mathlib.Core.Path.{sym, ap, subst, ◌∙◌}
+use native.Mathlib.Omega.{arith}
+use borrow.Author.Rules.{rules}
+use Rattle.conflicts.specs.Host.{host_number_of, HostFits}
+use Rattle.haplotypes.proofs.HostLaws.{host-read, snp-fits}
+use Rattle.haplotypes.proofs.host.haplotypes_least_snp_removal.Goals as goal
+
+pub host_number-requires : goal.host_number-requires
+host_number-requires c = record { base_bound = omega arith; host_fits = subst (HostFits 4294967296) (sym c.least_snp_removal.ensures.outcome) (snp-fits _ _ _ _) }
+
+pub returns : goal.returns
+returns c =
+    let e = c.least_snp_removal.ensures in
+    let number = c.host_number.ensures ∙ ap (host_number_of 4294967296) e.outcome in
+    record { number = number; read = host-read 4294967296 (snp-fits _ _ _ _) number; work = e.work; answer = e.answer }
