@@ -8,10 +8,10 @@ ghost use Rattle.listing.specs.Listing.{listed, listing};
 
 use fields::column_count;
 use input::read_input;
-use libc::{STDERR_FILENO, STDIN_FILENO, STDOUT_FILENO};
 use lines::{put_refusal, put_sizes};
 use records::{Outcome, table_fault};
 use services::{put_check, put_least};
+use std::io::{Eprint, Input as _, Print};
 
 mod answers;
 mod input;
@@ -48,27 +48,27 @@ fn fill_listing(table: &[u8], out: &mut [u8]) -> usize
 }
 
 // One line on standard error. A failure to write it has nowhere to be told.
-fn report(message: &[u8]) {
-    io::write_all(STDERR_FILENO, message);
+fn report(rt: &impl Eprint, message: &str) {
+    let _ = eprintln!(rt; "{message}");
 }
 
 // Prints the listing of a table, or says that it could not.
-fn print_listing(table: &[u8]) {
-    let mut out = io::buffer();
+fn print_listing(rt: &(impl Print + Eprint), table: &[u8]) {
+    let mut out = [0u8; 4096];
     let length = fill_listing(table, &mut out);
-    if !io::write_all(STDOUT_FILENO, &out[..length]) {
-        report(b"listing: cannot write to standard output\n");
+    if rt.write_all(&out[..length]).is_err() {
+        report(rt, "listing: cannot write to standard output");
     }
 }
 
 // A table that could not be read whole is not answered.
-fn main() {
+fn main(rt: HostRuntime) {
     let mut buffer = [0u8; 4128];
-    let input = read_input(STDIN_FILENO, &mut buffer);
+    let input = read_input(&mut rt.reader(), &mut buffer);
     let count = input.count;
     if input.whole {
-        print_listing(&buffer[..count]);
+        print_listing(&rt, &buffer[..count]);
     } else {
-        report(b"listing: cannot read standard input\n");
+        report(&rt, "listing: cannot read standard input");
     }
 }
