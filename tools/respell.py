@@ -166,6 +166,8 @@ if __name__ == "__main__":
         text = antt(open(f).read())
         text = nested(text)
         text = below(text) if f == "crates/below/specs/Below.antt" else library_if(text, False)
+        if f.endswith("/RoundTrips.antt"):
+            text = re.sub(r"(\bpub |\.)cells_left(?= :| ∙)", r"\1cells_are", text)  # port.py gave this field the name of a bound name
         text = re.sub(r"\b(if-\w+) \{ℓ\} : \{A : Type ℓ\}", r"\1 : {A : Type 0}", text)
         open(f, "w").write(text)
     for f in RT:

@@ -1,7 +1,7 @@
 -- Tests joined, and an `if` on a test of numbers, from what the code's own tests say.
 -- Assumes nothing.
 use Rattle.std.specs.Prelude.{if◌then◌else◌}
-use mathlib.Core.Path.{◌≡◌, refl, sym, ap}
+use mathlib.Core.Path.{◌≡◌, refl, ap}
 use mathlib.Core.Bool.{Bool, true, false}
 use Prim.Native.Nat.{ℕ, ◌<◌, ◌≤◌}
 use Rattle.below.specs.Below.{bit, ◌<?◌, ◌=?◌, ◌and◌}

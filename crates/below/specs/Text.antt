@@ -1,7 +1,7 @@
 -- Text as bytes.
 -- Assumes nothing.
 use Rattle.std.specs.Prelude.{ℕ, List, [], ◌∷◌}
-use Prim.Native.Char.{Char, code}
+use Prim.Native.Char.{code}
 use Prim.Native.String.{String, [] as none, ◌∷◌ as ◌then◌}
 
 -- the numbers of a text's characters: its bytes, where all are ASCII

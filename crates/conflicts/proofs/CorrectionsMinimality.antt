@@ -4,13 +4,13 @@ use mathlib.Core.Path.{◌≡◌, refl, sym, ap, ap₂, subst, subst₂, ◌∙�
 use mathlib.Core.Bool.{Bool}
 use mathlib.Core.List.Memᴰ
 use mathlib.Core.List.{List}
-use Prim.Native.Nat.{ℕ, ◌+◌, ◌%◌, ◌≤◌, ◌<◌}
+use Prim.Native.Nat.{ℕ, ◌%◌, ◌≤◌, ◌<◌}
 use native.Mathlib.Nat.{le_trans, le_of_eq}
 use lib.Dec.{T, lit≤}
 use lib.ListN.{length, get_or, replicate, get_or-replicate}
 use Rattle.below.specs.Below.{isnt, tab}
 use Rattle.fields.specs.Record.{grade_of, is_call_code}
-use Rattle.fields.specs.Table.{fragments, record_bytes_at}
+use Rattle.fields.specs.Table.{record_bytes_at}
 use Rattle.records.specs.Outcome.{Verdict, accepted}
 use Rattle.below.proofs.BelowLaws.{if-true}
 use Rattle.below.proofs.RowLaws.{tab-ext, tab-again}

@@ -1,12 +1,12 @@
 -- Only C looks at the weights; and where all are 1, C is C by counts.
 -- Assumes nothing.
 use Rattle.std.specs.Prelude.{if◌then◌else◌}
-use mathlib.Core.Path.{◌≡◌, refl, sym, ap, ap₂, fun_ext, ◌∙◌}
+use mathlib.Core.Path.{◌≡◌, refl, ap, ap₂, fun_ext, ◌∙◌}
 use mathlib.Core.Bool.{Bool}
 use mathlib.Core.List.{List}
 use Prim.Native.Nat.{ℕ, zero, suc, ◌≤◌, ◌<◌}
 use native.Mathlib.Omega.{arith}
-use Rattle.below.specs.Below.{◌=?◌, ◌and◌, sum_below, count_below, tab, concat}
+use Rattle.below.specs.Below.{◌=?◌, ◌and◌, count_below, tab, concat}
 use Rattle.fields.specs.Record.{grade_of}
 use Rattle.fields.specs.Grades.{weights, weight_of}
 use Rattle.fields.specs.Table.{fragments, record_bytes_at}

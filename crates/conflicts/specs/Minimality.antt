@@ -1,8 +1,8 @@
 -- What S, F and C promise of the set that they hand back, over any set and any classes (paper 01, "What the words mean").
 -- Assumes nothing.
-use Rattle.std.specs.Prelude.{◌≡◌, ◌⊎◌, Bool, true, List, ℕ, ◌+◌, ◌≤◌, ◌<◌, T, length, get_or}
-use Rattle.below.specs.Below.{bit, ◌=?◌, ◌<?◌, ◌and◌, isnt, count_below, tab}
-use Rattle.fields.specs.Record.{start_of, span_of, is_call_code, cell_of}
+use Rattle.std.specs.Prelude.{◌≡◌, ◌⊎◌, Bool, true, List, ℕ, ◌≤◌, ◌<◌, T, length, get_or}
+use Rattle.below.specs.Below.{bit, ◌=?◌, isnt, count_below, tab}
+use Rattle.fields.specs.Record.{span_of, is_call_code, cell_of}
 use Rattle.fields.specs.Table.{fragments, record_bytes_at}
 use Rattle.conflicts.specs.Grid.{Grid, conflict_on, agree, grid_of}
 use Rattle.conflicts.specs.Corrections.{cost, side_letter, differs, cell_total, turned}

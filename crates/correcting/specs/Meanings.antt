@@ -2,7 +2,6 @@
 -- Assumes nothing.
 use Rattle.std.specs.Prelude.{◌≡◌, List, ℕ}
 use Rattle.records.specs.Outcome.{Verdict, accepted}
-use Rattle.conflicts.specs.Grid.{grid_of}
 use Rattle.conflicts.specs.Minimality.{Corrected}
 
 -- C's number, answer and table: every set of calls that works has at least as many; the cells that differ work, are exactly that many, and no other bit differs; the side list is the first

@@ -2,21 +2,17 @@
 -- Assumes nothing.
 use Rattle.std.specs.Prelude.{if◌then◌else◌}
 use mathlib.Core.Path.{◌≡◌, refl, sym, ap, ◌∙◌}
-use mathlib.Core.Logic.{inl, inr}
 use mathlib.Core.List.Memᴰ
 use mathlib.Core.List.{List, [], ◌∷◌}
-use Prim.Native.Nat.{ℕ, ◌+◌, ◌*◌, ◌/◌, ◌%◌, ◌<◌}
-use native.Mathlib.Nat.{eq-zero-or-pos, mul-zero, div-add-mod', div-lt_iff_lt-mul, mod-lt}
-use native.Mathlib.Omega.{arith}
+use Prim.Native.Nat.{ℕ, ◌+◌, ◌*◌, ◌<◌}
 use lib.ListN.{length, get_or}
-use lib.Seq.{ext_get_or}
 use denote.Ref.{Bor}
-use Rattle.below.specs.Below.{◌<?◌, tab, concat}
+use Rattle.below.specs.Below.{◌<?◌, concat}
 use Rattle.fields.specs.Record.{code_at}
 use Rattle.fields.specs.Table.{fragments, record_bytes_at, Part, part_start, part_length, unpacked_cells, unpacked_tags, unpacked_grades}
 use Rattle.records.specs.Outcome.{Verdict, accepted, refused}
 use Rattle.records.specs.Rules.{Rule, decide, size_rules, table_rules}
-use Rattle.below.proofs.BelowLaws.{if-true, lt-<?, length-tab, get_or-tab, is_true, ne-isnt}
+use Rattle.below.proofs.BelowLaws.{if-true, lt-<?, is_true, ne-isnt}
 use Rattle.records.proofs.RuleLaws.{accepted-count, rule-broken, decide-none, stage-kept, stage-refused, stage-last, accepted-stage}
 use Rattle.conflicts.specs.Services.{written, length_rule, unpack_rules, unpack_leaves}
 use Rattle.conflicts.proofs.Outcomes.{unpack-refused}

@@ -9,7 +9,7 @@ use native.Mathlib.Omega.{arith}
 use lib.Dec.{T}
 use lib.ListN.{length, get_or, set, replicate, length-set, length-replicate}
 use lib.Seq.{get_or-set_same, get_or-set_other}
-use Rattle.below.specs.Below.{◌=?◌, ◌<?◌, ◌≤?◌, ◌and◌, ◌or◌, isnt, any_below, count_below, first_below, nth}
+use Rattle.below.specs.Below.{◌=?◌, ◌<?◌, ◌and◌, ◌or◌, isnt, any_below, count_below, first_below, nth}
 use Rattle.below.proofs.BelowLaws.{any-ext}
 use Rattle.below.proofs.SearchLaws.{=?-true, =?-false, <?-true, <?-false, ≤?-true, ≤?-false, any-more}
 use Rattle.conflicts.specs.Grid.{Grid, stretch_covers, coverage}

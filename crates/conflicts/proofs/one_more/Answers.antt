@@ -3,7 +3,6 @@
 use borrow.Author.Tests.{lt-ltb, le-ltb}
 use Rattle.below.specs.Below.{◌<?◌}
 use Rattle.conflicts.specs.Tally.{one_more_of}
-use borrow.Author.Rules.{rules}
 use Rattle.conflicts.proofs.one_more.Goals as goal
 
 pub returns-then-count-lt4294967295 : goal.returns-then-count-lt4294967295

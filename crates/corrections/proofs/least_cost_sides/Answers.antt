@@ -2,7 +2,6 @@
 -- Assumes nothing.
 use Rattle.ranks.proofs.TableLaws.{zeros-at as weights-none}
 use mathlib.Core.Path.{refl, ◌∙◌}
-use borrow.Author.Rules.{rules}
 use Rattle.matrix.specs.Algorithm.Matrix.{matrix_grid, weighted_grid}
 use Rattle.slots.proofs.GrantLaws.{zeros-at, none-granted, spanned-weighted, shallow-weighted, slotted-weighted}
 use Rattle.corrections.proofs.StepLaws.{holds-start, holds-least}

@@ -1,10 +1,6 @@
 -- `quick_find::components` meets its contract. The invariant is the state after the rows passed.
 use borrow.Author.Rules.{rules}
-use borrow.Author.Tests.{not-true, not-false}
-use mathlib.Core.Path.{◌≡◌}
-use Prim.Native.Nat.{◌*◌, ◌-◌, ◌≤◌}
-use lib.ListN.{length}
-use Rattle.components.specs.Algorithm.Components.{related, Passed}
+use Rattle.components.specs.Algorithm.Components.{related}
 use Rattle.components.proofs.StepLaws.{says-yes, says-no}
 use Rattle.components.proofs.PassLaws.{rows_end}
 use Rattle.components.proofs.quick_find.components.Goals as goal

@@ -1,13 +1,9 @@
 -- `quick_find::components` meets its contract. The invariant is the state after the rows passed.
 -- Assumes nothing.
-use borrow.Author.Rules.{rules}
-use borrow.Author.Tests.{not-true, not-false}
 use mathlib.Core.Path.{◌≡◌}
 use Prim.Native.Nat.{◌*◌, ◌-◌, ◌≤◌}
 use lib.ListN.{length}
-use Rattle.components.specs.Algorithm.Components.{related, Passed}
-use Rattle.components.proofs.StepLaws.{says-yes, says-no}
-use Rattle.components.proofs.PassLaws.{rows_end}
+use Rattle.components.specs.Algorithm.Components.{Passed}
 use Rattle.components.proofs.quick_find.components.Given as goal
 
 abbrev pub invariant-loop-i : goal.invariant-loop-i

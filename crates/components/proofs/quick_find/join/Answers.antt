@@ -1,6 +1,5 @@
 -- `quick_find::join` meets its contract.
 -- Assumes nothing.
-use borrow.Author.Rules.{rules}
 use Rattle.components.proofs.StepLaws.{says-yes}
 use Rattle.components.proofs.PassLaws.{pair-removed, pair-agrees, pair-joined}
 use Rattle.components.proofs.quick_find.join.Goals as goal

@@ -1,6 +1,5 @@
 -- `quick_find::join_pair` meets its contract.
 -- Assumes nothing.
-use borrow.Author.Rules.{rules}
 use Rattle.components.proofs.StepLaws.{step-up, step_down, step_same}
 use Rattle.components.proofs.quick_find.join_pair.Goals as goal
 

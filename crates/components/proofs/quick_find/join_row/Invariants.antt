@@ -1,14 +1,10 @@
 -- `quick_find::join_row` meets its contract. The invariant is the state after the pairs passed.
 -- Assumes nothing.
-use borrow.Author.Rules.{rules}
-use borrow.Author.Tests.{not-true, not-false}
 use mathlib.Core.Path.{◌≡◌}
 use Prim.Native.Nat.{◌+◌, ◌*◌, ◌-◌, ◌≤◌, ◌<◌}
 use lib.ListN.{length}
 use Rattle.masks.specs.Algorithm.Masks.{line_at}
 use Rattle.components.specs.Algorithm.Components.{Passed}
-use Rattle.components.proofs.StepLaws.{says-yes, says-no}
-use Rattle.components.proofs.PassLaws.{is-marked, row-removed, row-begin, row-end}
 use Rattle.components.proofs.quick_find.join_row.Given as goal
 
 abbrev pub invariant-loop-j : goal.invariant-loop-j

@@ -1,6 +1,5 @@
 -- `quick_find::new_side` meets its contract.
 -- Assumes nothing.
-use borrow.Author.Rules.{rules}
 use mathlib.Core.Path.{sym, ap, ◌∙◌}
 use mathlib.Core.Bool.{Bool}
 use Rattle.components.specs.Algorithm.Components.{side_turned}

@@ -1,6 +1,5 @@
 -- `quick_find::own_label` meets its contract.
 -- Assumes nothing.
-use borrow.Author.Rules.{rules}
 use mathlib.Core.Path.{sym}
 use Rattle.below.proofs.TestLaws.{if-lt, if-ge}
 use Rattle.components.proofs.quick_find.own_label.Goals as goal

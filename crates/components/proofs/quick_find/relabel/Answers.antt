@@ -1,12 +1,11 @@
 -- `quick_find::relabel` meets its contract. The invariant: the fragments passed have their new labels and sides, by those at entry.
 use native.Mathlib.Omega.{arith}
 use borrow.Author.Rules.{rules}
-use Prim.Native.Nat.{◌-◌, ◌≤◌}
 use mathlib.Core.Path.{◌≡◌}
 use native.Mathlib.Nat.{le_refl}
 use Rattle.below.specs.Below.{nth}
-use Rattle.components.proofs.SweepLaws.{Remade, sweep-none, sweep-set}
-use Rattle.components.proofs.StepLaws.{new_label_of, new_side_of, joined}
+use Rattle.components.proofs.SweepLaws.{sweep-none, sweep-set}
+use Rattle.components.proofs.StepLaws.{joined}
 use Rattle.components.proofs.quick_find.relabel.Goals as goal
 
 pub loop-k-init : goal.loop-k-init

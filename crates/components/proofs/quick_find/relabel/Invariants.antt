@@ -1,13 +1,8 @@
 -- `quick_find::relabel` meets its contract. The invariant: the fragments passed have their new labels and sides, by those at entry.
 -- Assumes nothing.
-use native.Mathlib.Omega.{arith}
-use borrow.Author.Rules.{rules}
 use Prim.Native.Nat.{◌-◌, ◌≤◌}
-use mathlib.Core.Path.{◌≡◌}
-use native.Mathlib.Nat.{le_refl}
-use Rattle.below.specs.Below.{nth}
-use Rattle.components.proofs.SweepLaws.{Remade, sweep-none, sweep-set}
-use Rattle.components.proofs.StepLaws.{new_label_of, new_side_of, joined}
+use Rattle.components.proofs.SweepLaws.{Remade}
+use Rattle.components.proofs.StepLaws.{new_label_of, new_side_of}
 use Rattle.components.proofs.quick_find.relabel.Given as goal
 
 abbrev pub invariant-loop-k : goal.invariant-loop-k

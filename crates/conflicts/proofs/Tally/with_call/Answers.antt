@@ -3,7 +3,6 @@
 use borrow.Author.Tests.{ne_eqb}
 use Rattle.below.specs.Below.{◌=?◌}
 use Rattle.conflicts.specs.Tally.{tallied}
-use borrow.Author.Rules.{rules}
 use Rattle.conflicts.proofs.Tally.with_call.Goals as goal
 
 pub returns-then-code-eq1 : goal.returns-then-code-eq1

@@ -1,13 +1,12 @@
 -- `calls::correct_calls` meets its contract.
 -- Assumes nothing.
-use mathlib.Core.Path.{sym, ap, ◌∙◌}
+use mathlib.Core.Path.{ap, ◌∙◌}
 use native.Mathlib.Omega.{arith}
 use lib.ListN.{length}
 use Rattle.records.proofs.AcceptedLaws.{sized-count, sized-n, sized-m}
 use Rattle.conflicts.proofs.SideLaws.{all-length}
 use Rattle.matrix.proofs.KeptLaws.{table-matrix}
 use Rattle.correcting.proofs.TableCorrectionLaws.{table-count, table-two-bits, sides-size, table-answered, table-records}
-use borrow.Author.Rules.{rules}
 use Rattle.correcting.proofs.calls.correct_calls.Goals as goal
 
 pub settle-total-requires : goal.settle-total-requires

@@ -6,7 +6,6 @@ use Rattle.records.proofs.AcceptedLaws.{sized-m}
 use Rattle.stages.proofs.StageLaws.{correction-sized, correction-answer, correction-output, correction-kept}
 use Rattle.matrix.proofs.KeptLaws.{table-matrix}
 use Rattle.correcting.proofs.TableCorrectionLaws.{table-deep, table-shallow, correction-deep, correction-accepts}
-use borrow.Author.Rules.{rules}
 use Rattle.correcting.proofs.calls.correct_shallow.Goals as goal
 
 clauses-outcome-work-answer-corrected : {A B C D : Type 0} → A × (B × (C × D)) → record { outcome : A; work : B; answer : C; corrected : D }

@@ -7,7 +7,6 @@ use native.Mathlib.Omega.{arith}
 use Rattle.records.proofs.AcceptedLaws.{sized-n, sized-m}
 use Rattle.conflicts.proofs.MarkLaws.{all-kept-part}
 use Rattle.conflicts.proofs.SideLaws.{all-length}
-use borrow.Author.Rules.{rules}
 use Rattle.correcting.proofs.calls.correct_table.Goals as goal
 
 pub slice_bounds-correct_calls-end : goal.slice_bounds-correct_calls-end

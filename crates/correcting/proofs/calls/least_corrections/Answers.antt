@@ -4,7 +4,6 @@ use mathlib.Core.Path.{sym, ap, ◌∙◌}
 use native.Mathlib.Omega.{arith}
 use Rattle.records.specs.Outcome.{outcome_of}
 use Rattle.correcting.proofs.TableCorrectionLaws.{correction-refuses, correction-means}
-use borrow.Author.Rules.{rules}
 use Rattle.correcting.proofs.calls.least_corrections.Goals as goal
 
 clauses-outcome-work-answer-corrected-meaning : {A B C D E : Type 0} → A × (B × (C × (D × E))) → record { outcome : A; work : B; answer : C; corrected : D; meaning : E }

@@ -9,7 +9,6 @@ use Rattle.matrix.specs.Algorithm.Cells.{table_weights}
 use Rattle.matrix.proofs.TableLaws.{table-weights}
 use Rattle.correcting.specs.Algorithm.Settled.{Settled}
 use Rattle.correcting.proofs.TableCorrectionLaws.{settled-sides}
-use borrow.Author.Rules.{rules}
 use Rattle.correcting.proofs.calls.settle.Goals as goal
 
 weighed : {weights : List ℕ} (table : List ℕ) → weights ≡ table_weights table → Weights weights

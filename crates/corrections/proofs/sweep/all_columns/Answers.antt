@@ -1,6 +1,6 @@
 -- `sweep::all_columns` meets its contract. The loop's invariant: the table holds the least weights from column c on.
 use mathlib.Core.Path.{◌≡◌, subst}
-use Prim.Native.Nat.{ℕ, ◌+◌, ◌-◌, ◌≤◌}
+use Prim.Native.Nat.{ℕ, ◌+◌, ◌-◌}
 use native.Mathlib.Nat.{le_refl}
 use native.Mathlib.Omega.{arith}
 use borrow.Author.Rules.{rules}
@@ -8,7 +8,6 @@ use Rattle.matrix.specs.Algorithm.Matrix.{weighted_grid}
 use Rattle.ranks.specs.Algorithm.Tables.{at}
 use Rattle.events.specs.Algorithm.Events.{events_from}
 use Rattle.slots.specs.Algorithm.Columns.{first_column}
-use Rattle.patterns.specs.Algorithm.Patterns.{Patterns}
 use Rattle.corrections.specs.Algorithm.Sweep.{HoldsAll}
 use Rattle.corrections.proofs.StepLaws.{holds-all}
 use Rattle.corrections.proofs.sweep.all_columns.Goals as goal

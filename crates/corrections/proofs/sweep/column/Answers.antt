@@ -8,10 +8,8 @@ use native.Mathlib.Omega.{arith}
 use borrow.Author.Rules.{rules}
 use Rattle.matrix.specs.Algorithm.Matrix.{weighted_grid}
 use Rattle.ranks.specs.Algorithm.Tables.{at}
-use Rattle.events.specs.Algorithm.Events.{part_of}
-use Rattle.slots.specs.Algorithm.Columns.{first_column}
-use Rattle.patterns.specs.Algorithm.Patterns.{Patterns, Prices}
-use Rattle.corrections.specs.Algorithm.Sweep.{Ready, Gathered, GathersAll, HoldsAll}
+use Rattle.patterns.specs.Algorithm.Patterns.{Prices}
+use Rattle.corrections.specs.Algorithm.Sweep.{Ready, Gathered, GathersAll}
 use Rattle.slots.proofs.GrantLaws.{zeros-at}
 use Rattle.corrections.proofs.PriceLaws.{gathered_none, gathered-prices, price-most}
 use Rattle.corrections.proofs.StepLaws.{column-room, part_room, part-next, step-charge, step-if, step-column}

@@ -1,10 +1,7 @@
 -- `sweep::decode` meets its contract. The loop's invariant: the sides below p are written.
 use mathlib.Core.Path.{ap}
-use Prim.Native.Nat.{ℕ, ◌+◌, ◌-◌}
-use borrow.Author.Rules.{rules}
-use Rattle.below.proofs.FillLaws.{Filled, filled_none, filled_more, filled-all}
-use Rattle.ranks.specs.Algorithm.Weight.{digit_at}
-use Rattle.ranks.specs.Algorithm.Reading.{code}
+use Prim.Native.Nat.{ℕ, ◌+◌}
+use Rattle.below.proofs.FillLaws.{filled_none, filled_more, filled-all}
 use Rattle.corrections.proofs.sweep.decode.Goals as goal
 
 pub loop-p-init : goal.loop-p-init

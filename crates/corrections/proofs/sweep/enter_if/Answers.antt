@@ -1,7 +1,6 @@
 -- `sweep::enter_if` meets its contract.
 -- Assumes nothing.
 use mathlib.Core.Path.{refl}
-use borrow.Author.Rules.{rules}
 use Rattle.corrections.proofs.sweep.enter_if.Goals as goal
 
 pub enter-requires : goal.enter-requires

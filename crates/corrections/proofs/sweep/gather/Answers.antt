@@ -1,12 +1,10 @@
 -- `sweep::gather` meets its contract. The loop's invariant: the prices of the fragments passed are gathered.
 use mathlib.Core.Path.{◌≡◌, refl, subst, ap, ◌∙◌}
 use mathlib.Core.List.{List}
-use Prim.Native.Nat.{ℕ, ◌+◌, ◌-◌, ◌≤◌, ◌<◌, zero-le}
+use Prim.Native.Nat.{ℕ, ◌+◌, ◌<◌, zero-le}
 use native.Mathlib.Omega.{arith}
 use lib.ListN.{length, get_or}
-use borrow.Author.Rules.{rules}
 use Rattle.matrix.specs.Algorithm.Matrix.{weighted_grid}
-use Rattle.slots.specs.Algorithm.Spans.{Spanned}
 use Rattle.corrections.specs.Algorithm.Sweep.{Gathered, GathersAll, with_price}
 use Rattle.corrections.proofs.PriceLaws.{gathered-more, price-is, prices-long}
 use Rattle.corrections.proofs.sweep.gather.Invariants.{Passed}

@@ -1,16 +1,13 @@
 -- `sweep::gather` meets its contract. The loop's invariant: the prices of the fragments passed are gathered.
 -- Assumes nothing.
 -- the prices of a letter of the first i fragments, of any matrix that has these spans and slots
-use mathlib.Core.Path.{◌≡◌, refl, subst, ap, ◌∙◌}
+use mathlib.Core.Path.{◌≡◌}
 use mathlib.Core.List.{List}
-use Prim.Native.Nat.{ℕ, ◌+◌, ◌-◌, ◌≤◌, ◌<◌, zero-le}
-use native.Mathlib.Omega.{arith}
-use lib.ListN.{length, get_or}
-use borrow.Author.Rules.{rules}
+use Prim.Native.Nat.{ℕ, ◌-◌, ◌≤◌}
+use lib.ListN.{length}
 use Rattle.matrix.specs.Algorithm.Matrix.{weighted_grid}
 use Rattle.slots.specs.Algorithm.Spans.{Spanned}
-use Rattle.corrections.specs.Algorithm.Sweep.{Gathered, GathersAll, with_price}
-use Rattle.corrections.proofs.PriceLaws.{gathered-more, price-is, prices-long}
+use Rattle.corrections.specs.Algorithm.Sweep.{Gathered}
 use Rattle.corrections.proofs.sweep.gather.Given as goal
 
 pub record Passed (m : ℕ) (cells weights starts ends slots : List ℕ) (c letter i : ℕ) (prices₀ prices : List ℕ) : Type 0 where

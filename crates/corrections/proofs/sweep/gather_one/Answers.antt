@@ -1,7 +1,6 @@
 -- `sweep::gather_one` meets its contract.
 -- Assumes nothing.
 use native.Mathlib.Omega.{arith}
-use borrow.Author.Rules.{rules}
 use Rattle.corrections.proofs.PriceLaws.{price-put, price-ended, price-not-begun}
 use Rattle.corrections.proofs.sweep.gather_one.Goals as goal
 

@@ -1,6 +1,5 @@
 -- `counts::conflict_counts` meets its contract.
 -- Assumes nothing.
-use borrow.Author.Rules.{rules}
 use mathlib.Core.Path.{sym, ap, ◌∙◌}
 use Rattle.records.specs.Outcome.{outcome_of}
 use Rattle.counting.proofs.CountingLaws.{counts-sizes, counts-refuses, counts-mean}

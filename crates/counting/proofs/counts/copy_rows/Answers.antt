@@ -1,13 +1,12 @@
 -- `counts::copy_rows` meets its contract. The invariant: the rows before fragment i stand in the counts, and the next one starts at i × m.
-use borrow.Author.Rules.{rules}
-use mathlib.Core.Path.{◌≡◌, sym, ap, ◌∙◌}
+use mathlib.Core.Path.{sym, ap, ◌∙◌}
 use Prim.Native.Nat.{ℕ, ◌+◌, ◌*◌, ◌-◌, ◌≤◌}
 use native.Mathlib.Omega.{arith}
 use native.Mathlib.Nat.{zero-mul, add-sub_cancel_left, mul-le-mul_right}
 use lib.ListN.{take, drop}
 use borrow.Rule.Slice.PartMut.{same_len_mid, mid_len}
 use Rattle.below.specs.Below.{tab, nth}
-use Rattle.below.proofs.FillLaws.{Filled, filled_none, filled-part, filled-all}
+use Rattle.below.proofs.FillLaws.{filled_none, filled-part, filled-all}
 use Rattle.below.proofs.RowLaws.{tab-ext, part-again, tab-again, row_within, row_next}
 use Rattle.counting.specs.Algorithm.Rows.{rows_of}
 use Rattle.counting.proofs.CountingLaws.{rows-length, rows_at}

@@ -1,6 +1,5 @@
 -- `counts::counts_sized` meets its contract.
 -- Assumes nothing.
-use borrow.Author.Rules.{rules}
 use mathlib.Core.Path.{sym, ap, ◌∙◌}
 use Rattle.below.proofs.RowLaws.{product-fits}
 use Rattle.records.specs.Outcome.{outcome_of}

@@ -1,6 +1,5 @@
 use mathlib.Core.Path.{sym}
 use lib.ListN.{get_or-eq_default}
-use borrow.Author.Rules.{rules}
 use Rattle.fields.proofs.fields.byte.Goals as goal
 
 pub returns-else-i-part : goal.returns-else-i-part

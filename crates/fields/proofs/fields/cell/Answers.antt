@@ -2,7 +2,6 @@ use mathlib.Core.Path.{sym, ◌∙◌}
 use native.Mathlib.Omega.{arith}
 use Rattle.fields.proofs.ByteLaws.{cell-past}
 use Rattle.fields.proofs.FieldLaws.{cell-shifted}
-use borrow.Author.Rules.{rules}
 use Rattle.fields.proofs.fields.cell.Goals as goal
 
 pub returns-then-i-ge96 : goal.returns-then-i-ge96

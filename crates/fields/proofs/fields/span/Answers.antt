@@ -1,6 +1,5 @@
 use Rattle.fields.specs.Record.{span_of}
 use native.Mathlib.Omega.{arith}
-use borrow.Author.Rules.{rules}
 use Rattle.fields.proofs.fields.span.Goals as goal
 
 pub returns : goal.returns

@@ -1,6 +1,5 @@
 use Rattle.fields.proofs.FieldLaws.{start-bytes}
 use native.Mathlib.Omega.{arith}
-use borrow.Author.Rules.{rules}
 use Rattle.fields.proofs.fields.start.Goals as goal
 
 pub returns : goal.returns

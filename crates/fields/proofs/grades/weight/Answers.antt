@@ -1,7 +1,5 @@
-use mathlib.Core.Path.{◌≡◌, sym}
-use Prim.Native.Nat.{◌≤◌}
+use mathlib.Core.Path.{sym}
 use lib.Dec.{lit≤}
-use borrow.Author.Rules.{rules}
 use Rattle.fields.specs.Grades.{weights}
 use Rattle.fields.proofs.GradeLaws.{entry, no-grade}
 use Rattle.fields.proofs.grades.weight.Goals as goal

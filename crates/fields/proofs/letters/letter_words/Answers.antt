@@ -2,7 +2,7 @@
 use borrow.Author.Rules.{rules}
 use native.Mathlib.Omega.{arith}
 use mathlib.Core.Path.{◌≡◌, refl}
-use Prim.Native.Nat.{◌+◌, ◌*◌, ◌-◌, ◌≤◌}
+use Prim.Native.Nat.{◌+◌, ◌*◌}
 use Rattle.places.specs.Algorithm.Words.{word_of}
 use Rattle.fields.specs.Record.{cell_of}
 use Rattle.fields.specs.Algorithm.Letters.{has_a, has_b}

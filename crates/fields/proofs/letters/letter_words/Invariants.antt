@@ -1,14 +1,10 @@
 -- `letters::letter_words` meets its contract. The invariant: the words have the letters of the bytes passed.
 -- Assumes nothing.
-use borrow.Author.Rules.{rules}
-use native.Mathlib.Omega.{arith}
-use mathlib.Core.Path.{◌≡◌, refl}
+use mathlib.Core.Path.{◌≡◌}
 use Prim.Native.Nat.{◌+◌, ◌*◌, ◌-◌, ◌≤◌}
 use Rattle.places.specs.Algorithm.Words.{word_of}
 use Rattle.fields.specs.Record.{cell_of}
 use Rattle.fields.specs.Algorithm.Letters.{has_a, has_b}
-use Rattle.places.proofs.WordLaws.{word_below}
-use Rattle.fields.proofs.LetterLaws.{fours-a, fours-b, four-next}
 use Rattle.fields.proofs.letters.letter_words.Given as goal
 
 abbrev pub invariant-loop-j : goal.invariant-loop-j

@@ -1,6 +1,5 @@
 -- `letters::letters_of` meets its contract.
 -- Assumes nothing.
-use borrow.Author.Rules.{rules}
 use mathlib.Core.Path.{refl, ap₂}
 use Rattle.below.specs.Below.{◌=?◌}
 use Rattle.places.specs.Algorithm.Places.{places_where}

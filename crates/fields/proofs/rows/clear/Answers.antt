@@ -1,9 +1,7 @@
 use mathlib.Core.Path.{refl, ◌∙◌}
-use Prim.Native.Nat.{◌-◌}
 use native.Mathlib.Omega.{arith}
-use lib.ListN.{length}
 use borrow.Author.Rules.{rules}
-use Rattle.below.proofs.FillLaws.{Filled, filled_none, filled_more, filled-all, tab-const}
+use Rattle.below.proofs.FillLaws.{filled_none, filled_more, filled-all, tab-const}
 use Rattle.fields.proofs.rows.clear.Goals as goal
 
 pub loop-c-init : goal.loop-c-init

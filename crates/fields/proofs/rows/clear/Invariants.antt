@@ -1,9 +1,6 @@
-use mathlib.Core.Path.{refl, ◌∙◌}
 use Prim.Native.Nat.{◌-◌}
-use native.Mathlib.Omega.{arith}
 use lib.ListN.{length}
-use borrow.Author.Rules.{rules}
-use Rattle.below.proofs.FillLaws.{Filled, filled_none, filled_more, filled-all, tab-const}
+use Rattle.below.proofs.FillLaws.{Filled}
 use Rattle.fields.proofs.rows.clear.Given as goal
 
 abbrev pub invariant-loop-c : goal.invariant-loop-c

@@ -2,7 +2,6 @@ use mathlib.Core.Path.{ap, ◌∙◌}
 use Prim.Native.Nat.{ℕ, min}
 use lib.ListN.{length}
 use Rattle.fields.proofs.FieldLaws.{row-filled}
-use borrow.Author.Rules.{rules}
 use Rattle.fields.proofs.rows.fill_row.Goals as goal
 
 pub returns : goal.returns

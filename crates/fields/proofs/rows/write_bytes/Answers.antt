@@ -1,11 +1,9 @@
-use Prim.Native.Nat.{ℕ, ◌+◌, ◌*◌, ◌/◌, ◌%◌, ◌^◌, ◌-◌, ◌<◌}
+use Prim.Native.Nat.{ℕ, ◌+◌, ◌*◌, ◌/◌, ◌%◌, ◌^◌, ◌<◌}
 use mathlib.Core.Path.{◌≡◌, refl, ap, ◌∙◌}
-use lib.ListN.{length, length-set}
 use native.Mathlib.Omega.{arith}
 use Rattle.fields.specs.Record.{cell_of}
-use Rattle.below.proofs.FillLaws.{Filled, filled_none, filled-four}
+use Rattle.below.proofs.FillLaws.{filled_none, filled-four}
 use Rattle.fields.proofs.FieldLaws.{cell-of-byte}
-use borrow.Author.Rules.{rules}
 use Rattle.fields.proofs.rows.write_bytes.Goals as goal
 
 pub loop-b-init : goal.loop-b-init

@@ -1,11 +1,7 @@
-use Prim.Native.Nat.{ℕ, ◌+◌, ◌*◌, ◌/◌, ◌%◌, ◌^◌, ◌-◌, ◌<◌}
-use mathlib.Core.Path.{◌≡◌, refl, ap, ◌∙◌}
-use lib.ListN.{length, length-set}
-use native.Mathlib.Omega.{arith}
+use Prim.Native.Nat.{◌*◌, ◌-◌}
+use lib.ListN.{length}
 use Rattle.fields.specs.Record.{cell_of}
-use Rattle.below.proofs.FillLaws.{Filled, filled_none, filled-four}
-use Rattle.fields.proofs.FieldLaws.{cell-of-byte}
-use borrow.Author.Rules.{rules}
+use Rattle.below.proofs.FillLaws.{Filled}
 use Rattle.fields.proofs.rows.write_bytes.Given as goal
 
 abbrev pub invariant-loop-b : goal.invariant-loop-b

@@ -1,11 +1,9 @@
 use mathlib.Core.Path.{refl, ap, ◌∙◌}
-use Prim.Native.Nat.{ℕ, ◌-◌}
-use lib.ListN.{length}
+use Prim.Native.Nat.{ℕ}
 use native.Mathlib.Omega.{arith}
 use Rattle.below.specs.Below.{tab}
 use Rattle.fields.specs.Record.{cell_of}
-use Rattle.below.proofs.FillLaws.{Filled, filled_more, filled-all}
-use borrow.Author.Rules.{rules}
+use Rattle.below.proofs.FillLaws.{filled_more, filled-all}
 use Rattle.fields.proofs.rows.write_cells.Goals as goal
 
 pub loop-c-init : goal.loop-c-init

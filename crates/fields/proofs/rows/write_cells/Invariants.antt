@@ -1,11 +1,7 @@
-use mathlib.Core.Path.{refl, ap, ◌∙◌}
-use Prim.Native.Nat.{ℕ, ◌-◌}
+use Prim.Native.Nat.{◌-◌}
 use lib.ListN.{length}
-use native.Mathlib.Omega.{arith}
-use Rattle.below.specs.Below.{tab}
 use Rattle.fields.specs.Record.{cell_of}
-use Rattle.below.proofs.FillLaws.{Filled, filled_more, filled-all}
-use borrow.Author.Rules.{rules}
+use Rattle.below.proofs.FillLaws.{Filled}
 use Rattle.fields.proofs.rows.write_cells.Given as goal
 
 abbrev pub invariant-loop-c : goal.invariant-loop-c

@@ -1,9 +1,9 @@
 use mathlib.Core.List.{List}
-use Prim.Native.Nat.{ℕ, ◌+◌, ◌-◌, ◌≤◌}
+use Prim.Native.Nat.{ℕ, ◌+◌}
 use mathlib.Core.Path.{◌≡◌, refl, ap, ◌∙◌}
 use Rattle.below.specs.Below.{max_below}
 use Rattle.fields.specs.Record.{start_of, span_of}
-use Rattle.fields.specs.Table.{fragments, record_bytes_at, column_count_of}
+use Rattle.fields.specs.Table.{fragments, column_count_of}
 use Rattle.below.proofs.BelowLaws.{max-more}
 use Rattle.fields.proofs.PartLaws.{part-record}
 use borrow.Author.Rules.{rules}

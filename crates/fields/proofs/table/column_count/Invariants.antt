@@ -1,13 +1,8 @@
-use mathlib.Core.List.{List}
-use Prim.Native.Nat.{ℕ, ◌+◌, ◌-◌, ◌≤◌}
-use mathlib.Core.Path.{◌≡◌, refl, ap, ◌∙◌}
+use Prim.Native.Nat.{◌+◌, ◌-◌, ◌≤◌}
+use mathlib.Core.Path.{◌≡◌}
 use Rattle.below.specs.Below.{max_below}
 use Rattle.fields.specs.Record.{start_of, span_of}
-use Rattle.fields.specs.Table.{fragments, record_bytes_at, column_count_of}
-use Rattle.below.proofs.BelowLaws.{max-more}
-use Rattle.fields.proofs.PartLaws.{part-record}
-use borrow.Author.Rules.{rules}
-use native.Mathlib.Omega.{arith}
+use Rattle.fields.specs.Table.{fragments, record_bytes_at}
 use Rattle.fields.proofs.table.column_count.Given as goal
 
 abbrev pub invariant-loop-i : goal.invariant-loop-i

@@ -1,11 +1,9 @@
 -- the tag that the turn reads is that of record i
-use Prim.Native.Nat.{◌-◌, ◌≤◌}
 use mathlib.Core.Path.{◌≡◌, refl, sym, ap, ◌∙◌}
-use Rattle.below.specs.Below.{◌=?◌}
 use Rattle.fields.specs.Record.{tag_of}
 use Rattle.fields.specs.Table.{fragments, record_bytes_at, position}
 use Rattle.fields.proofs.PartLaws.{part-record}
-use Rattle.below.proofs.SearchLaws.{NoneBelow, none_yet, none_more, first-hit, first-none, =?-true, =?-false}
+use Rattle.below.proofs.SearchLaws.{none_yet, none_more, first-hit, first-none, =?-true, =?-false}
 use borrow.Author.Rules.{rules}
 use native.Mathlib.Omega.{arith}
 use Rattle.fields.proofs.table.position_of.Goals as goal

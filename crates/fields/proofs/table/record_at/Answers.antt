@@ -4,7 +4,6 @@ use native.Mathlib.Nat.{add-sub_cancel_left, sub_self}
 use Rattle.fields.specs.Table.{fragments}
 use Rattle.fields.proofs.PartLaws.{place_at, bytes-at, start-in, start-past, length-in, length-past}
 use mathlib.Core.Path.{sym, ◌∙◌}
-use borrow.Author.Rules.{rules}
 use Rattle.fields.proofs.table.record_at.Goals as goal
 
 pub returns-then-i-m : goal.returns-then-i-m

@@ -1,12 +1,9 @@
 -- `copying::birth` meets its contract. The loop's invariant: state s has the weights of the next state with the states below h.
-use mathlib.Core.Path.{◌≡◌, refl}
-use Prim.Native.Nat.{ℕ, ◌+◌, ◌-◌, ◌≤◌, ◌<◌}
+use mathlib.Core.Path.{refl}
+use Prim.Native.Nat.{ℕ, ◌+◌, ◌≤◌, ◌<◌}
 use native.Mathlib.Nat.{le_refl}
 use native.Mathlib.Omega.{arith}
-use lib.ListN.{length}
 use borrow.Author.Rules.{rules}
-use Rattle.ranks.specs.Algorithm.Tables.{at}
-use Rattle.fragment_pairs.specs.Algorithm.Pairs.{Born}
 use Rattle.fragment_pairs.proofs.CornerLaws.{row_inside}
 use Rattle.fragment_pairs.proofs.BirthLaws.{born-none, born-more, born-all}
 use Rattle.fragment_pairs.proofs.copying.birth.Goals as goal

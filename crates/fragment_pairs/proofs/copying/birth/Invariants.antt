@@ -2,16 +2,11 @@
 -- Assumes nothing.
 -- the places of a row are in the table
 -- the places of the pairs of each state with itself are in the table
-use mathlib.Core.Path.{◌≡◌, refl}
-use Prim.Native.Nat.{ℕ, ◌+◌, ◌-◌, ◌≤◌, ◌<◌}
-use native.Mathlib.Nat.{le_refl}
-use native.Mathlib.Omega.{arith}
+use mathlib.Core.Path.{◌≡◌}
+use Prim.Native.Nat.{◌+◌, ◌-◌, ◌≤◌, ◌<◌}
 use lib.ListN.{length}
-use borrow.Author.Rules.{rules}
 use Rattle.ranks.specs.Algorithm.Tables.{at}
 use Rattle.fragment_pairs.specs.Algorithm.Pairs.{Born}
-use Rattle.fragment_pairs.proofs.CornerLaws.{row_inside}
-use Rattle.fragment_pairs.proofs.BirthLaws.{born-none, born-more, born-all}
 use Rattle.fragment_pairs.proofs.copying.birth.Given as goal
 
 abbrev pub invariant-loop-h : goal.invariant-loop-h

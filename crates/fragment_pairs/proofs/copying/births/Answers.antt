@@ -1,9 +1,8 @@
 -- `copying::births` meets its contract. The loop's invariant: the states from s on have the weights of state d.
-use mathlib.Core.Path.{◌≡◌, refl, subst}
-use Prim.Native.Nat.{ℕ, ◌-◌, ◌≤◌}
+use mathlib.Core.Path.{refl, subst}
+use Prim.Native.Nat.{ℕ, ◌-◌}
 use native.Mathlib.Nat.{le_antisymm}
 use native.Mathlib.Omega.{arith}
-use lib.ListN.{length}
 use borrow.Author.Rules.{rules}
 use Rattle.fragment_pairs.specs.Algorithm.Pairs.{pairs, Copied}
 use Rattle.fragment_pairs.proofs.BirthLaws.{copied_none, copied_more}

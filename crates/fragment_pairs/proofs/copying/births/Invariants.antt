@@ -1,13 +1,9 @@
 -- `copying::births` meets its contract. The loop's invariant: the states from s on have the weights of state d.
 -- Assumes nothing.
-use mathlib.Core.Path.{◌≡◌, refl, subst}
-use Prim.Native.Nat.{ℕ, ◌-◌, ◌≤◌}
-use native.Mathlib.Nat.{le_antisymm}
-use native.Mathlib.Omega.{arith}
+use mathlib.Core.Path.{◌≡◌}
+use Prim.Native.Nat.{◌≤◌}
 use lib.ListN.{length}
-use borrow.Author.Rules.{rules}
 use Rattle.fragment_pairs.specs.Algorithm.Pairs.{pairs, Copied}
-use Rattle.fragment_pairs.proofs.BirthLaws.{copied_none, copied_more}
 use Rattle.fragment_pairs.proofs.copying.births.Given as goal
 
 abbrev pub invariant-loop-s : goal.invariant-loop-s

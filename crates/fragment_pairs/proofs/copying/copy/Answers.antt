@@ -1,6 +1,5 @@
 -- `copying::copy` meets its contract.
 -- Assumes nothing.
-use borrow.Author.Rules.{rules}
 use lib.ListN.{get_or}
 use Rattle.ranks.proofs.TableLaws.{put-set}
 use Rattle.fragment_pairs.proofs.copying.copy.Goals as goal

@@ -1,15 +1,12 @@
 -- `rows::layer` meets its contract. The loop's invariant: the rows below h have the fragment before them, and the others not yet.
-use mathlib.Core.Path.{◌≡◌, refl}
-use Prim.Native.Nat.{◌+◌, ◌-◌, ◌≤◌}
+use mathlib.Core.Path.{refl}
+use Prim.Native.Nat.{◌+◌, ◌≤◌}
 use native.Mathlib.Omega.{arith}
-use lib.ListN.{length}
 use borrow.Author.Rules.{rules}
 use Rattle.conflicts.specs.Choice.{marked}
 use Rattle.ranks.specs.Algorithm.Reading.{value}
 use Rattle.ranks.specs.Algorithm.Tables.{at}
 use Rattle.below.specs.Below.{nth}
-use Rattle.fragment_pairs.specs.Algorithm.Layer.{with_fragment_in}
-use Rattle.fragment_pairs.specs.Algorithm.Pairs.{pairs, Rows}
 use Rattle.fragment_pairs.proofs.PairLaws.{rows_none, rows_more, rows-room, rows_made}
 use Rattle.fragment_pairs.proofs.rows.layer.Goals as goal
 

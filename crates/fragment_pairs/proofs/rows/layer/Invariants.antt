@@ -1,17 +1,14 @@
 -- `rows::layer` meets its contract. The loop's invariant: the rows below h have the fragment before them, and the others not yet.
 -- Assumes nothing.
-use mathlib.Core.Path.{◌≡◌, refl}
-use Prim.Native.Nat.{◌+◌, ◌-◌, ◌≤◌}
-use native.Mathlib.Omega.{arith}
+use mathlib.Core.Path.{◌≡◌}
+use Prim.Native.Nat.{◌-◌, ◌≤◌}
 use lib.ListN.{length}
-use borrow.Author.Rules.{rules}
 use Rattle.conflicts.specs.Choice.{marked}
 use Rattle.ranks.specs.Algorithm.Reading.{value}
 use Rattle.ranks.specs.Algorithm.Tables.{at}
 use Rattle.below.specs.Below.{nth}
 use Rattle.fragment_pairs.specs.Algorithm.Layer.{with_fragment_in}
 use Rattle.fragment_pairs.specs.Algorithm.Pairs.{pairs, Rows}
-use Rattle.fragment_pairs.proofs.PairLaws.{rows_none, rows_more, rows-room, rows_made}
 use Rattle.fragment_pairs.proofs.rows.layer.Given as goal
 
 abbrev pub invariant-loop-h : goal.invariant-loop-h

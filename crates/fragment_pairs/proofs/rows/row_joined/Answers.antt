@@ -1,18 +1,16 @@
 -- `rows::row_joined` meets its contract. The loop's invariant: the states below l have the fragment before them, and the others not yet.
 use mathlib.Core.Path.{◌≡◌, refl, sym, ap, subst, ◌∙◌}
 use mathlib.Core.Bool.{true}
-use Prim.Native.Nat.{ℕ, ◌+◌, ◌-◌, ◌≤◌, ◌<◌}
+use Prim.Native.Nat.{ℕ, ◌+◌, ◌≤◌, ◌<◌}
 use native.Mathlib.Nat.{le_trans}
 use native.Mathlib.Omega.{arith}
-use lib.ListN.{length}
 use borrow.Author.Rules.{rules}
 use Rattle.below.specs.Below.{nth}
 use Rattle.conflicts.specs.Choice.{marked}
 use Rattle.ranks.specs.Algorithm.Reading.{value}
-use Rattle.ranks.specs.Algorithm.Tables.{at, Sweep}
+use Rattle.ranks.specs.Algorithm.Tables.{at}
 use Rattle.ranks.proofs.TableLaws.{sweep-none}
-use Rattle.fragment_pairs.specs.Algorithm.Layer.{with_fragment_in}
-use Rattle.fragment_pairs.specs.Algorithm.Pairs.{row_start_of, pairs, along}
+use Rattle.fragment_pairs.specs.Algorithm.Pairs.{row_start_of}
 use Rattle.fragment_pairs.proofs.CornerLaws.{row_inside}
 use Rattle.fragment_pairs.proofs.PairLaws.{RowReads, row_fits, row_more, furthest-range, sweep-at}
 use Rattle.fragment_pairs.proofs.rows.row_joined.Goals as goal

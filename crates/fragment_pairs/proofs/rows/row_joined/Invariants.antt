@@ -2,22 +2,15 @@
 -- Assumes nothing.
 -- the state that h moves to
 -- the places of a pair, and of what it moves to, are in the table
-use mathlib.Core.Path.{◌≡◌, refl, sym, ap, subst, ◌∙◌}
-use mathlib.Core.Bool.{true}
-use Prim.Native.Nat.{ℕ, ◌+◌, ◌-◌, ◌≤◌, ◌<◌}
-use native.Mathlib.Nat.{le_trans}
-use native.Mathlib.Omega.{arith}
+use mathlib.Core.Path.{◌≡◌}
+use Prim.Native.Nat.{◌+◌, ◌-◌, ◌≤◌}
 use lib.ListN.{length}
-use borrow.Author.Rules.{rules}
 use Rattle.below.specs.Below.{nth}
 use Rattle.conflicts.specs.Choice.{marked}
 use Rattle.ranks.specs.Algorithm.Reading.{value}
 use Rattle.ranks.specs.Algorithm.Tables.{at, Sweep}
-use Rattle.ranks.proofs.TableLaws.{sweep-none}
 use Rattle.fragment_pairs.specs.Algorithm.Layer.{with_fragment_in}
 use Rattle.fragment_pairs.specs.Algorithm.Pairs.{row_start_of, pairs, along}
-use Rattle.fragment_pairs.proofs.CornerLaws.{row_inside}
-use Rattle.fragment_pairs.proofs.PairLaws.{RowReads, row_fits, row_more, furthest-range, sweep-at}
 use Rattle.fragment_pairs.proofs.rows.row_joined.Given as goal
 
 abbrev pub invariant-loop-l : goal.invariant-loop-l

@@ -1,6 +1,5 @@
 -- `weights::furthest_of` meets its contract.
 -- Assumes nothing.
-use borrow.Author.Rules.{rules}
 use Rattle.below.specs.Below.{nth}
 use Rattle.fragment_pairs.proofs.PairLaws.{further, no-further}
 use Rattle.fragment_pairs.proofs.weights.furthest_of.Goals as goal

@@ -1,6 +1,5 @@
 -- `weights::greater` meets its contract.
 -- Assumes nothing.
-use borrow.Author.Rules.{rules}
 use Rattle.ranks.specs.Algorithm.Reading.{value}
 use Rattle.fragment_pairs.proofs.OrderLaws.{greater-first, greater-second}
 use Rattle.fragment_pairs.proofs.weights.greater.Goals as goal

@@ -1,7 +1,6 @@
 -- `weights::greater_joined` meets its contract.
 -- Assumes nothing.
 use mathlib.Core.Path.{◌∙◌}
-use borrow.Author.Rules.{rules}
 use Rattle.fragment_pairs.proofs.PairLaws.{taken-weight, left-weight, joined-far, joined-here, own-adds}
 use Rattle.fragment_pairs.proofs.weights.greater_joined.Goals as goal
 

@@ -1,7 +1,6 @@
 -- `weights::is_marked` meets its contract.
 -- Assumes nothing.
 use mathlib.Core.Path.{refl}
-use borrow.Author.Rules.{rules}
 use Rattle.below.specs.Below.{◌<?◌}
 use Rattle.conflicts.specs.Choice.{marked}
 use Rattle.fragment_pairs.proofs.weights.is_marked.Goals as goal

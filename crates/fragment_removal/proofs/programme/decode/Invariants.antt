@@ -1,8 +1,7 @@
 -- `programme::decode` meets its contract. The loop's invariant: the marks below p are written.
 -- Assumes nothing.
 use Prim.Native.Nat.{ℕ, ◌-◌}
-use borrow.Author.Rules.{rules}
-use Rattle.below.proofs.FillLaws.{Filled, filled_none, filled_more, filled-all}
+use Rattle.below.proofs.FillLaws.{Filled}
 use Rattle.ranks.specs.Algorithm.Weight.{digit_at}
 use Rattle.ranks.specs.Algorithm.Reading.{code}
 use Rattle.fragment_removal.proofs.programme.decode.Given as goal

@@ -1,4 +1,4 @@
--- `programme::extend` meets its contract. A call's `.ok` says that the fields of the Rank it hands back fit; `.1 .1 .1 .0 .1` is its higher word, `.1 .1 .1 .1 .0 .1` its lower.
+-- `programme::extend` meets its contract. A call's `.type_inv` says that the fields of the Rank it hands back fit; `.1.1.1.0.1` is its higher word, `.1.1.1.1.0.1` its lower.
 -- Assumes nothing.
 use mathlib.Core.Path.{refl, ◌∙◌}
 use Prim.Native.Nat.{◌-◌, ◌+◌}

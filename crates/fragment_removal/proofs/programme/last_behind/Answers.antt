@@ -1,7 +1,5 @@
 -- `programme::last_behind` meets its contract. The loop's invariant: no state up to s reaches past the start.
-use Prim.Native.Nat.{◌-◌, ◌≤◌}
 use borrow.Author.Rules.{rules}
-use Rattle.fragment_removal.specs.Algorithm.Holding.{Behind}
 use Rattle.fragment_removal.proofs.DeadLaws.{behind-none, behind_more}
 use Rattle.fragment_removal.proofs.programme.last_behind.Goals as goal
 

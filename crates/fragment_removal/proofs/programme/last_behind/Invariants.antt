@@ -1,9 +1,7 @@
 -- `programme::last_behind` meets its contract. The loop's invariant: no state up to s reaches past the start.
 -- Assumes nothing.
 use Prim.Native.Nat.{◌-◌, ◌≤◌}
-use borrow.Author.Rules.{rules}
 use Rattle.fragment_removal.specs.Algorithm.Holding.{Behind}
-use Rattle.fragment_removal.proofs.DeadLaws.{behind-none, behind_more}
 use Rattle.fragment_removal.proofs.programme.last_behind.Given as goal
 
 abbrev pub invariant-loop-s : goal.invariant-loop-s

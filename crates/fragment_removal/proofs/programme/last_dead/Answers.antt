@@ -3,7 +3,6 @@
 use mathlib.Core.Path.{ap, subst, ◌∙◌}
 use Prim.Native.Nat.{ℕ}
 use native.Mathlib.Omega.{arith}
-use borrow.Author.Rules.{rules}
 use Rattle.fields.specs.Writing.{calls_start_of}
 use Rattle.places.specs.declared.lines.Line.{Line}
 use Rattle.masks.specs.Algorithm.Masks.{code_in}

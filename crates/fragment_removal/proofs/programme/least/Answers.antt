@@ -1,4 +1,4 @@
--- `programme::least` meets its contract. A call's `.ok` says that the fields of the Rank it hands back fit; `.1 .1 .1 .0 .1` is its higher word, `.1 .1 .1 .1 .0 .1` its lower.
+-- `programme::least` meets its contract. A call's `.type_inv` says that the fields of the Rank it hands back fit; `.1.1.1.0.1` is its higher word, `.1.1.1.1.0.1` its lower.
 -- Assumes nothing.
 -- what the weight of the first states says
 use mathlib.Core.Path.{◌≡◌, ◌∙◌}

@@ -1,6 +1,5 @@
 -- `programme::line_start` meets its contract.
 -- Assumes nothing.
-use borrow.Author.Rules.{rules}
 use mathlib.Core.Path.{◌∙◌}
 use Rattle.fragment_states.proofs.ReadLaws.{first-called, never-called}
 use Rattle.fragment_removal.proofs.programme.line_start.Goals as goal

@@ -1,13 +1,12 @@
 -- `programme::suffixes` meets its contract. The loop's invariant: the table holds the weights of the last k fragments.
-use mathlib.Core.Path.{◌≡◌, refl, subst₂}
-use Prim.Native.Nat.{ℕ, ◌-◌, ◌≤◌}
+use mathlib.Core.Path.{refl, subst₂}
+use Prim.Native.Nat.{ℕ}
 use native.Mathlib.Nat.{le_antisymm}
 use native.Mathlib.Omega.{arith}
-use lib.ListN.{length}
 use borrow.Author.Rules.{rules}
 use Rattle.masks.specs.Algorithm.Masks.{words_grid}
 use Rattle.fragment_pairs.specs.Algorithm.Pairs.{pairs}
-use Rattle.fragment_removal.specs.Algorithm.Holding.{HoldsFragments, Dead}
+use Rattle.fragment_removal.specs.Algorithm.Holding.{HoldsFragments}
 use Rattle.fragment_removal.proofs.DeadLaws.{dead-none}
 use Rattle.fragment_removal.proofs.programme.suffixes.Goals as goal
 

@@ -1,15 +1,11 @@
 -- `programme::suffixes` meets its contract. The loop's invariant: the table holds the weights of the last k fragments.
 -- Assumes nothing.
-use mathlib.Core.Path.{◌≡◌, refl, subst₂}
-use Prim.Native.Nat.{ℕ, ◌-◌, ◌≤◌}
-use native.Mathlib.Nat.{le_antisymm}
-use native.Mathlib.Omega.{arith}
+use mathlib.Core.Path.{◌≡◌}
+use Prim.Native.Nat.{◌-◌, ◌≤◌}
 use lib.ListN.{length}
-use borrow.Author.Rules.{rules}
 use Rattle.masks.specs.Algorithm.Masks.{words_grid}
 use Rattle.fragment_pairs.specs.Algorithm.Pairs.{pairs}
 use Rattle.fragment_removal.specs.Algorithm.Holding.{HoldsFragments, Dead}
-use Rattle.fragment_removal.proofs.DeadLaws.{dead-none}
 use Rattle.fragment_removal.proofs.programme.suffixes.Given as goal
 
 abbrev pub invariant-loop-k : goal.invariant-loop-k

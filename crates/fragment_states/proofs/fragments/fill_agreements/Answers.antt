@@ -1,11 +1,6 @@
 -- `fragments::fill_agreements` meets its contract. The loop's invariant: the states from the first on and below s are done.
-use mathlib.Core.Path.{◌≡◌}
-use Prim.Native.Nat.{◌-◌}
 use native.Mathlib.Omega.{arith}
-use lib.ListN.{length}
 use borrow.Author.Rules.{rules}
-use Rattle.below.specs.Below.{bit}
-use Rattle.fragment_states.specs.Algorithm.Fragments.{Between, words_join}
 use Rattle.fragment_states.proofs.FillLaws.{between_none, between_more}
 use Rattle.fragment_states.proofs.fragments.fill_agreements.Goals as goal
 

@@ -2,12 +2,9 @@
 -- Assumes nothing.
 use mathlib.Core.Path.{◌≡◌}
 use Prim.Native.Nat.{◌-◌}
-use native.Mathlib.Omega.{arith}
 use lib.ListN.{length}
-use borrow.Author.Rules.{rules}
 use Rattle.below.specs.Below.{bit}
 use Rattle.fragment_states.specs.Algorithm.Fragments.{Between, words_join}
-use Rattle.fragment_states.proofs.FillLaws.{between_none, between_more}
 use Rattle.fragment_states.proofs.fragments.fill_agreements.Given as goal
 
 abbrev pub invariant-loop-s : goal.invariant-loop-s

@@ -1,11 +1,7 @@
 -- `fragments::fill_reaches` meets its contract. The loop's invariant: the states below s are done.
-use mathlib.Core.Path.{◌≡◌}
-use Prim.Native.Nat.{◌-◌, ◌≤◌, zero-le}
+use Prim.Native.Nat.{zero-le}
 use native.Mathlib.Omega.{arith}
-use lib.ListN.{length}
 use borrow.Author.Rules.{rules}
-use Rattle.masks.specs.Algorithm.Masks.{words_grid}
-use Rattle.fragment_states.specs.Algorithm.Fragments.{Between, state_reach_of}
 use Rattle.fragment_states.proofs.FillLaws.{between_none, between_more}
 use Rattle.fragment_states.proofs.fragments.fill_reaches.Goals as goal
 

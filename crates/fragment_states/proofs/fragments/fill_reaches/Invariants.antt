@@ -1,13 +1,10 @@
 -- `fragments::fill_reaches` meets its contract. The loop's invariant: the states below s are done.
 -- Assumes nothing.
 use mathlib.Core.Path.{◌≡◌}
-use Prim.Native.Nat.{◌-◌, ◌≤◌, zero-le}
-use native.Mathlib.Omega.{arith}
+use Prim.Native.Nat.{◌-◌, ◌≤◌}
 use lib.ListN.{length}
-use borrow.Author.Rules.{rules}
 use Rattle.masks.specs.Algorithm.Masks.{words_grid}
 use Rattle.fragment_states.specs.Algorithm.Fragments.{Between, state_reach_of}
-use Rattle.fragment_states.proofs.FillLaws.{between_none, between_more}
 use Rattle.fragment_states.proofs.fragments.fill_reaches.Given as goal
 
 abbrev pub invariant-loop-s : goal.invariant-loop-s

@@ -1,6 +1,5 @@
 -- `fragments::line_end` meets its contract.
 -- Assumes nothing.
-use borrow.Author.Rules.{rules}
 use mathlib.Core.Path.{◌∙◌}
 use native.Mathlib.Omega.{arith}
 use Rattle.fields.specs.Writing.{calls_end_of}

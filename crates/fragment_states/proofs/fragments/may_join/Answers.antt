@@ -1,6 +1,5 @@
 -- `fragments::may_join` meets its contract.
 -- Assumes nothing.
-use borrow.Author.Rules.{rules}
 use mathlib.Core.Path.{sym, ap, ◌∙◌}
 use native.Mathlib.Omega.{arith}
 use Rattle.below.specs.Below.{bit}

@@ -1,6 +1,5 @@
 -- `fragments::positions_agree` meets its contract.
 -- Assumes nothing.
-use borrow.Author.Rules.{rules}
 use mathlib.Core.Path.{ap, ap₂, ◌∙◌}
 use mathlib.Core.Bool.{not}
 use Rattle.below.specs.Below.{isnt}

@@ -2,7 +2,6 @@
 -- Assumes nothing.
 use mathlib.Core.Path.{sym, ap, subst, ◌∙◌}
 use native.Mathlib.Omega.{arith}
-use borrow.Author.Rules.{rules}
 use Rattle.conflicts.specs.Host.{host_number_of, HostFits}
 use Rattle.haplotypes.proofs.HostLaws.{host-read, counts-fits}
 use Rattle.haplotypes.proofs.host.haplotypes_conflict_counts.Goals as goal

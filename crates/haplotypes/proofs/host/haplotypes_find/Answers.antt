@@ -1,6 +1,5 @@
 -- `host::haplotypes_find` meets its contract.
 -- Assumes nothing.
-use borrow.Author.Rules.{rules}
 use Rattle.haplotypes.proofs.HostLaws.{start-found, start-absent}
 use Rattle.haplotypes.proofs.host.haplotypes_find.Goals as goal
 

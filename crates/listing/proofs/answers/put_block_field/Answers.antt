@@ -5,7 +5,6 @@ use Prim.Native.Nat.{ℕ}
 use mathlib.Core.List.{List, ◌++◌}
 use mathlib.Core.Path.{ap}
 use Rattle.below.specs.Text.{ascii}
-use borrow.Author.Rules.{rules}
 use Rattle.listing.proofs.answers.put_block_field.Goals as goal
 
 pub returns-then-count-eq0 : goal.returns-then-count-eq0

@@ -1,14 +1,9 @@
 -- the word of block i
-use Rattle.listing.proofs.AppendLaws.{◌⨾◌, joined-one, joined-more, as-text, Continued, continued-none, continued-more, continued-all}
+use Rattle.listing.proofs.AppendLaws.{Continued}
 use Rattle.listing.specs.Listing.{block_word, joined}
 use Rattle.below.specs.Below.{tab}
-use Rattle.below.specs.Text.{ascii}
-use borrow.Author.Rules.{rules}
 use lib.ListN.{get_or}
-use native.Mathlib.Omega.{arith}
-use native.Mathlib.Nat.{add-zero}
-use mathlib.Core.List.{List, ◌++◌}
-use mathlib.Core.Path.{sym, ap, ◌∙◌}
+use mathlib.Core.List.{List}
 use Prim.Native.Nat.{ℕ, ◌+◌, ◌*◌, ◌-◌, ◌≤◌, ◌<◌}
 use Rattle.listing.proofs.answers.put_blocks.Given as goal
 

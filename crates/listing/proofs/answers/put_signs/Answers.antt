@@ -1,15 +1,13 @@
 -- the sign of code i
 use Rattle.listing.proofs.AppendLaws.{appended-none, ◌⨾◌, tab-more, as-text}
 use Rattle.listing.specs.Listing.{sign_of}
-use Rattle.listing.specs.Algorithm.Appended.{Appended}
 use Rattle.below.proofs.BelowLaws.{length-tab}
 use Rattle.below.specs.Below.{tab, tab_from}
 use borrow.Author.Rules.{rules}
-use lib.ListN.{get_or}
 use native.Mathlib.Omega.{arith}
-use mathlib.Core.List.{List, [], ◌∷◌, ◌++◌}
+use mathlib.Core.List.{[], ◌∷◌, ◌++◌}
 use mathlib.Core.Path.{sym, ap, ◌∙◌}
-use Prim.Native.Nat.{ℕ, ◌+◌, ◌-◌, ◌≤◌}
+use Prim.Native.Nat.{ℕ}
 use Rattle.listing.proofs.answers.put_signs.Invariants.{codes}
 use Rattle.listing.proofs.answers.put_signs.Goals as goal
 

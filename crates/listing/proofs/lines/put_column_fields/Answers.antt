@@ -3,7 +3,6 @@ use Rattle.listing.proofs.AppendLaws.{appended-none, ◌⨾◌, as-text}
 use Rattle.below.specs.Text.{ascii}
 use Rattle.listing.specs.Listing.{digits, letters, led}
 use native.Mathlib.Omega.{arith}
-use borrow.Author.Rules.{rules}
 use Rattle.listing.proofs.lines.put_column_fields.Goals as goal
 
 pub returns : goal.returns

@@ -1,7 +1,6 @@
 use Rattle.below.specs.Text.{ascii}
 use Rattle.listing.proofs.AppendLaws.{◌⨾◌}
 use native.Mathlib.Omega.{arith}
-use borrow.Author.Rules.{rules}
 use Rattle.listing.proofs.lines.put_numbers.Goals as goal
 
 pub returns : goal.returns

@@ -3,7 +3,6 @@ use Rattle.listing.specs.Listing.{line, joined, led, refusal, fields, service_li
 use Rattle.records.specs.Outcome.{Verdict, outcome_of}
 use native.Mathlib.Omega.{arith}
 use mathlib.Core.Path.{sym, ap}
-use borrow.Author.Rules.{rules}
 use Rattle.listing.proofs.lines.put_service.Goals as goal
 
 pub returns-in-Refused : goal.returns-in-Refused

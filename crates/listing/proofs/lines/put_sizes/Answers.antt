@@ -2,7 +2,6 @@ use Rattle.below.specs.Text.{ascii}
 use Rattle.listing.specs.Listing.{decimal, line, joined, led, sizes_line}
 use Rattle.listing.proofs.LineLaws.{words-then}
 use Rattle.listing.proofs.AppendLaws.{as-text}
-use borrow.Author.Rules.{rules}
 use Rattle.listing.proofs.lines.put_sizes.Goals as goal
 
 pub returns : goal.returns

@@ -1,7 +1,6 @@
 use Rattle.listing.proofs.LineLaws.{accepted-line, refused-line}
 use Rattle.records.specs.Outcome.{outcome_of}
 use mathlib.Core.Path.{ap}
-use borrow.Author.Rules.{rules}
 use Rattle.listing.proofs.lines.says_yes.Goals as goal
 
 pub returns-in-Refused : goal.returns-in-Refused

@@ -6,9 +6,8 @@ use Rattle.records.specs.Outcome.{outcome_of}
 use Rattle.conflicts.specs.Answer.{answer_size}
 use lib.ListN.{length}
 use native.Mathlib.Omega.{arith}
-use mathlib.Core.List.{List}
 use mathlib.Core.Path.{◌≡◌, ap, ◌∙◌}
-use Prim.Native.Nat.{ℕ, ◌+◌, ◌*◌}
+use Prim.Native.Nat.{◌+◌, ◌*◌}
 use borrow.Author.Rules.{rules}
 use Rattle.listing.proofs.services.put_least.Goals as goal
 use Rattle.listing.proofs.services.put_least.Goals.{After-least-outcome}

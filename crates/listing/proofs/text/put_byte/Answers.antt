@@ -1,5 +1,4 @@
 use Rattle.listing.proofs.AppendLaws.{appended-byte}
-use borrow.Author.Rules.{rules}
 use Rattle.listing.proofs.text.put_byte.Goals as goal
 
 pub returns : goal.returns

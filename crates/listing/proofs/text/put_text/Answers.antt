@@ -1,10 +1,7 @@
-use Prim.Native.Nat.{◌-◌, ◌≤◌}
 use mathlib.Core.Path.{sym}
 use native.Mathlib.Omega.{arith}
-use lib.ListN.{length, take}
 use lib.Seq.{take_all, length-take-le}
 use borrow.Author.Rules.{rules}
-use Rattle.listing.specs.Algorithm.Appended.{Appended}
 use Rattle.listing.proofs.AppendLaws.{appended-none, ◌⨾◌, text-more, as-text}
 use Rattle.listing.proofs.text.put_text.Goals as goal
 

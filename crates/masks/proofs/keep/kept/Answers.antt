@@ -1,6 +1,5 @@
 -- `keep::kept` meets its contract.
 -- Assumes nothing.
-use borrow.Author.Rules.{rules}
 use mathlib.Core.Path.{ap₂}
 use Rattle.places.specs.Algorithm.Places.{places_where}
 use Rattle.places.specs.Algorithm.Words.{half_word}

@@ -1,8 +1,8 @@
 -- `keep::mark_word` meets its contract. The invariant: the word has the marks of the places passed.
 use borrow.Author.Rules.{rules}
 use mathlib.Core.Bool.{Bool}
-use mathlib.Core.Path.{◌≡◌, refl, ap}
-use Prim.Native.Nat.{ℕ, ◌+◌, ◌-◌, ◌≤◌}
+use mathlib.Core.Path.{refl, ap}
+use Prim.Native.Nat.{ℕ, ◌+◌}
 use lib.Dec.{ltb}
 use Rattle.below.specs.Below.{◌<?◌}
 use Rattle.conflicts.specs.Choice.{marked}

@@ -1,14 +1,9 @@
 -- `keep::mark_word` meets its contract. The invariant: the word has the marks of the places passed.
 -- Assumes nothing.
-use borrow.Author.Rules.{rules}
-use mathlib.Core.Bool.{Bool}
-use mathlib.Core.Path.{◌≡◌, refl, ap}
-use Prim.Native.Nat.{ℕ, ◌+◌, ◌-◌, ◌≤◌}
-use lib.Dec.{ltb}
-use Rattle.below.specs.Below.{◌<?◌}
+use mathlib.Core.Path.{◌≡◌}
+use Prim.Native.Nat.{◌+◌, ◌-◌, ◌≤◌}
 use Rattle.conflicts.specs.Choice.{marked}
 use Rattle.places.specs.Algorithm.Words.{word_of}
-use Rattle.places.proofs.WordLaws.{word_below, word_next, word_end}
 use Rattle.masks.proofs.keep.mark_word.Given as goal
 
 abbrev pub invariant-loop-b : goal.invariant-loop-b

@@ -1,7 +1,7 @@
 -- `masks::column_letters` meets its contract. The invariant: the two words have the letters of the fragments passed.
 use borrow.Author.Rules.{rules}
-use mathlib.Core.Path.{◌≡◌, refl, ap, ◌∙◌}
-use Prim.Native.Nat.{◌+◌, ◌-◌, ◌≤◌}
+use mathlib.Core.Path.{refl, ap, ◌∙◌}
+use Prim.Native.Nat.{◌+◌}
 use Rattle.places.specs.declared.lines.Line.{Line}
 use Rattle.places.specs.Algorithm.Words.{word_of}
 use Rattle.places.specs.Algorithm.Places.{has_place}

@@ -1,12 +1,9 @@
 -- `masks::column_letters` meets its contract. The invariant: the two words have the letters of the fragments passed.
 -- Assumes nothing.
-use borrow.Author.Rules.{rules}
-use mathlib.Core.Path.{◌≡◌, refl, ap, ◌∙◌}
+use mathlib.Core.Path.{◌≡◌}
 use Prim.Native.Nat.{◌+◌, ◌-◌, ◌≤◌}
-use Rattle.places.specs.declared.lines.Line.{Line}
 use Rattle.places.specs.Algorithm.Words.{word_of}
 use Rattle.places.specs.Algorithm.Places.{has_place}
-use Rattle.places.proofs.WordLaws.{word_below, word_next, word_end}
 use Rattle.masks.specs.Algorithm.Masks.{line_at}
 use Rattle.masks.proofs.masks.column_letters.Given as goal
 

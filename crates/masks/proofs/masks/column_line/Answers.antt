@@ -1,6 +1,5 @@
 -- `masks::column_line` meets its contract.
 -- Assumes nothing.
-use borrow.Author.Rules.{rules}
 use Rattle.masks.proofs.ColumnLaws.{column-is}
 use Rattle.masks.proofs.masks.column_line.Goals as goal
 

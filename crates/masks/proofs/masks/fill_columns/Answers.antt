@@ -1,8 +1,6 @@
 -- `masks::fill_columns` meets its contract. The invariant: the words of the columns passed are theirs.
 use borrow.Author.Rules.{rules}
-use native.Mathlib.Omega.{arith}
-use Prim.Native.Nat.{◌-◌, ◌≤◌}
-use Rattle.masks.specs.Algorithm.Masks.{transposed, ColumnsBegun}
+use Rattle.masks.specs.Algorithm.Masks.{transposed}
 use Rattle.masks.proofs.LineLaws.{words-none, words-all}
 use Rattle.masks.proofs.masks.fill_columns.Goals as goal
 

@@ -1,10 +1,7 @@
 -- `masks::fill_columns` meets its contract. The invariant: the words of the columns passed are theirs.
 -- Assumes nothing.
-use borrow.Author.Rules.{rules}
-use native.Mathlib.Omega.{arith}
 use Prim.Native.Nat.{◌-◌, ◌≤◌}
-use Rattle.masks.specs.Algorithm.Masks.{transposed, ColumnsBegun}
-use Rattle.masks.proofs.LineLaws.{words-none, words-all}
+use Rattle.masks.specs.Algorithm.Masks.{ColumnsBegun}
 use Rattle.masks.proofs.masks.fill_columns.Given as goal
 
 abbrev pub invariant-loop-c : goal.invariant-loop-c

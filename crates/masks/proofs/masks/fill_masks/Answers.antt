@@ -1,9 +1,6 @@
 -- `masks::fill_masks` meets its contract. The invariant: the words of the lines passed are theirs.
 use borrow.Author.Rules.{rules}
-use native.Mathlib.Omega.{arith}
-use Prim.Native.Nat.{◌-◌, ◌≤◌}
 use Rattle.conflicts.specs.Grid.{grid_of}
-use Rattle.masks.specs.Algorithm.Masks.{TableBegun}
 use Rattle.masks.proofs.LineLaws.{words-none, words-all}
 use Rattle.masks.proofs.masks.fill_masks.Goals as goal
 

@@ -1,11 +1,7 @@
 -- `masks::fill_masks` meets its contract. The invariant: the words of the lines passed are theirs.
 -- Assumes nothing.
-use borrow.Author.Rules.{rules}
-use native.Mathlib.Omega.{arith}
 use Prim.Native.Nat.{◌-◌, ◌≤◌}
-use Rattle.conflicts.specs.Grid.{grid_of}
 use Rattle.masks.specs.Algorithm.Masks.{TableBegun}
-use Rattle.masks.proofs.LineLaws.{words-none, words-all}
 use Rattle.masks.proofs.masks.fill_masks.Given as goal
 
 abbrev pub invariant-loop-i : goal.invariant-loop-i

@@ -1,7 +1,6 @@
 -- `masks::fragment_line` meets its contract.
 -- Assumes nothing.
 -- the part is record i
-use borrow.Author.Rules.{rules}
 use mathlib.Core.Path.{◌≡◌, ap, ◌∙◌}
 use Rattle.fields.specs.Record.{start_of}
 use Rattle.fields.specs.Table.{record_bytes_at}

@@ -1,6 +1,5 @@
 -- `masks::line_at` meets its contract.
 -- Assumes nothing.
-use borrow.Author.Rules.{rules}
 use mathlib.Core.Path.{refl}
 use Rattle.masks.specs.Algorithm.Masks.{line_at}
 use Rattle.masks.proofs.masks.line_at.Goals as goal

@@ -1,6 +1,5 @@
 -- `masks::put_line` meets its contract.
 -- Assumes nothing.
-use borrow.Author.Rules.{rules}
 use native.Mathlib.Omega.{arith}
 use lib.ListN.{length-set}
 use Rattle.masks.proofs.LineLaws.{words_more}

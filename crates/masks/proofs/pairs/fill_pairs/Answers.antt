@@ -1,8 +1,6 @@
 -- `pairs::fill_pairs` meets its contract. The invariant: the rows passed have their numbers.
 use borrow.Author.Rules.{rules}
-use Prim.Native.Nat.{◌*◌, ◌-◌, ◌≤◌}
 use native.Mathlib.Omega.{arith}
-use Rattle.masks.specs.Algorithm.Pairs.{pair_number_of, Numbered}
 use Rattle.masks.proofs.PairLaws.{number-back, numbered-none, numbered-to, matrix-is}
 use Rattle.masks.proofs.pairs.fill_pairs.Goals as goal
 

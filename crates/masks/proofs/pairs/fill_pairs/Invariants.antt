@@ -1,10 +1,7 @@
 -- `pairs::fill_pairs` meets its contract. The invariant: the rows passed have their numbers.
 -- Assumes nothing.
-use borrow.Author.Rules.{rules}
 use Prim.Native.Nat.{◌*◌, ◌-◌, ◌≤◌}
-use native.Mathlib.Omega.{arith}
 use Rattle.masks.specs.Algorithm.Pairs.{pair_number_of, Numbered}
-use Rattle.masks.proofs.PairLaws.{number-back, numbered-none, numbered-to, matrix-is}
 use Rattle.masks.proofs.pairs.fill_pairs.Given as goal
 
 abbrev pub invariant-loop-i : goal.invariant-loop-i

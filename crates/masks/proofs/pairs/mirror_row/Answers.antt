@@ -1,10 +1,7 @@
 -- `pairs::mirror_row` meets its contract. The invariant: the pairs passed have their numbers, whatever these are, if they are the same both ways.
 use borrow.Author.Rules.{rules}
-use mathlib.Core.Path.{◌≡◌, refl, ◌∙◌}
-use Prim.Native.Nat.{ℕ, ◌+◌, ◌*◌, ◌-◌, ◌≤◌}
+use mathlib.Core.Path.{refl, ◌∙◌}
 use native.Mathlib.Omega.{arith}
-use lib.ListN.{length}
-use Rattle.masks.specs.Algorithm.Pairs.{Numbered}
 use Rattle.masks.proofs.PairLaws.{numbered_more, numbered-to, numbered-at}
 use Rattle.masks.proofs.pairs.mirror_row.Goals as goal
 

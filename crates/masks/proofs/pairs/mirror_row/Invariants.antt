@@ -1,12 +1,9 @@
 -- `pairs::mirror_row` meets its contract. The invariant: the pairs passed have their numbers, whatever these are, if they are the same both ways.
 -- Assumes nothing.
-use borrow.Author.Rules.{rules}
-use mathlib.Core.Path.{◌≡◌, refl, ◌∙◌}
+use mathlib.Core.Path.{◌≡◌}
 use Prim.Native.Nat.{ℕ, ◌+◌, ◌*◌, ◌-◌, ◌≤◌}
-use native.Mathlib.Omega.{arith}
 use lib.ListN.{length}
 use Rattle.masks.specs.Algorithm.Pairs.{Numbered}
-use Rattle.masks.proofs.PairLaws.{numbered_more, numbered-to, numbered-at}
 use Rattle.masks.proofs.pairs.mirror_row.Given as goal
 
 abbrev pub invariant-loop-j : goal.invariant-loop-j

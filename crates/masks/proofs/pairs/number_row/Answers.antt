@@ -1,9 +1,7 @@
 -- `pairs::number_row` meets its contract. The invariant: the pairs passed have their numbers.
 use borrow.Author.Rules.{rules}
 use mathlib.Core.Path.{refl}
-use Prim.Native.Nat.{◌+◌, ◌*◌, ◌-◌, ◌≤◌}
 use native.Mathlib.Omega.{arith}
-use Rattle.masks.specs.Algorithm.Pairs.{pair_number_of, Numbered}
 use Rattle.masks.proofs.PairLaws.{numbered_more, numbered-to}
 use Rattle.masks.proofs.pairs.number_row.Goals as goal
 

@@ -1,6 +1,5 @@
 -- `pairs::pair_number` meets its contract.
 -- Assumes nothing.
-use borrow.Author.Rules.{rules}
 use mathlib.Core.Path.{sym, ap₂, ◌∙◌}
 use native.Mathlib.Omega.{arith}
 use Rattle.conflicts.specs.Choice.{marked}

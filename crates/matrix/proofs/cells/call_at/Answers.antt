@@ -1,7 +1,6 @@
 -- `cells::call_at` meets its contract.
 -- Assumes nothing.
 use mathlib.Core.Path.{ap, ◌∙◌}
-use borrow.Author.Rules.{rules}
 use Rattle.fields.specs.Record.{is_call_code}
 use Rattle.matrix.proofs.cells.call_at.Goals as goal
 

@@ -1,11 +1,9 @@
 -- `rows::copy` meets its contract. The invariant: the bytes passed are copied.
 use native.Mathlib.Omega.{arith}
 use borrow.Author.Rules.{rules}
-use Prim.Native.Nat.{◌-◌}
 use mathlib.Core.Path.{refl}
-use lib.ListN.{length, get_or}
 use lib.Seq.{ext_get_or}
-use Rattle.below.proofs.FillLaws.{Filled, filled_none, filled_more}
+use Rattle.below.proofs.FillLaws.{filled_none, filled_more}
 use Rattle.matrix.proofs.rows.copy.Goals as goal
 
 pub loop-i-init : goal.loop-i-init

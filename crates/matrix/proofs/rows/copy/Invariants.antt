@@ -1,12 +1,8 @@
 -- `rows::copy` meets its contract. The invariant: the bytes passed are copied.
 -- Assumes nothing.
-use native.Mathlib.Omega.{arith}
-use borrow.Author.Rules.{rules}
 use Prim.Native.Nat.{◌-◌}
-use mathlib.Core.Path.{refl}
 use lib.ListN.{length, get_or}
-use lib.Seq.{ext_get_or}
-use Rattle.below.proofs.FillLaws.{Filled, filled_none, filled_more}
+use Rattle.below.proofs.FillLaws.{Filled}
 use Rattle.matrix.proofs.rows.copy.Given as goal
 
 abbrev pub invariant-loop-i : goal.invariant-loop-i

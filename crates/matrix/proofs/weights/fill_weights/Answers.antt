@@ -1,7 +1,6 @@
-use Prim.Native.Nat.{◌-◌}
 use borrow.Author.Rules.{rules}
-use Rattle.below.proofs.FillLaws.{Filled, filled_none, filled_more, filled-all}
-use Rattle.matrix.specs.Algorithm.Cells.{table_weight, table_weights}
+use Rattle.below.proofs.FillLaws.{filled_none, filled_more, filled-all}
+use Rattle.matrix.specs.Algorithm.Cells.{table_weights}
 use Rattle.matrix.proofs.weights.fill_weights.Goals as goal
 
 pub loop-i-init : goal.loop-i-init

@@ -1,7 +1,6 @@
 use Prim.Native.Nat.{◌-◌}
-use borrow.Author.Rules.{rules}
-use Rattle.below.proofs.FillLaws.{Filled, filled_none, filled_more, filled-all}
-use Rattle.matrix.specs.Algorithm.Cells.{table_weight, table_weights}
+use Rattle.below.proofs.FillLaws.{Filled}
+use Rattle.matrix.specs.Algorithm.Cells.{table_weight}
 use Rattle.matrix.proofs.weights.fill_weights.Given as goal
 
 abbrev pub invariant-loop-i : goal.invariant-loop-i

@@ -1,5 +1,4 @@
 use mathlib.Core.Path.{◌∙◌, ap}
-use borrow.Author.Rules.{rules}
 use Rattle.fields.specs.Grades.{weight_of}
 use Rattle.matrix.proofs.CellLaws.{part-weight}
 use Rattle.matrix.proofs.weights.weight_at.Goals as goal

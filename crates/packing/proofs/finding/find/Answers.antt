@@ -2,7 +2,6 @@
 -- Assumes nothing.
 use mathlib.Core.Path.{subst}
 use Prim.Native.Nat.{ℕ}
-use borrow.Author.Rules.{rules}
 use Rattle.fields.specs.Table.{part_start, part_length, Part}
 use Rattle.conflicts.specs.Services.{find_leaves}
 use Rattle.packing.proofs.finding.find.Goals as goal

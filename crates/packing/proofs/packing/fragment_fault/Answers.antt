@@ -3,7 +3,6 @@
 use mathlib.Core.Path.{sym, ap, ◌∙◌}
 use Prim.Native.Nat.{ℕ}
 use native.Mathlib.Omega.{arith}
-use borrow.Author.Rules.{rules}
 use Rattle.records.proofs.RuleLaws.{rule-broken, rule-kept}
 use Rattle.below.specs.Below.{◌<?◌}
 use Rattle.below.proofs.SearchLaws.{<?-true, <?-false}

@@ -1,16 +1,13 @@
 -- `packing::fragments_fault` meets its contract. The loop's invariant: the verdict is that of the fragments from i on.
 -- Assumes nothing.
-use mathlib.Core.Path.{◌≡◌, refl, sym, ap, ◌∙◌}
-use Prim.Native.Nat.{ℕ, ◌+◌, ◌-◌, ◌≤◌, ◌<◌}
-use native.Mathlib.Omega.{arith}
+use mathlib.Core.Path.{◌≡◌}
+use Prim.Native.Nat.{◌-◌, ◌≤◌, ◌<◌}
 use lib.ListN.{length}
-use borrow.Author.Rules.{rules}
-use Rattle.records.proofs.RuleLaws.{from_row, rows-begin, rows_end, row_kept, row-broken}
+use Rattle.records.proofs.RuleLaws.{from_row}
 use Rattle.records.specs.Rules.{decide}
-use Rattle.records.specs.Outcome.{accepted, outcome_of}
+use Rattle.records.specs.Outcome.{accepted}
 use Rattle.conflicts.specs.Services.{packed_start, fragment_rules}
 use Rattle.packing.specs.Algorithm.Sizes.{fragments_rules}
-use Rattle.packing.proofs.SizeLaws.{pack-n, pack-m, pack-row}
 use Rattle.packing.proofs.packing.fragments_fault.Given as goal
 
 abbrev pub invariant-loop-i : goal.invariant-loop-i

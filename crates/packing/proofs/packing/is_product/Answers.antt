@@ -1,6 +1,5 @@
 -- `packing::is_product` meets its contract.
 -- Assumes nothing.
-use borrow.Author.Rules.{rules}
 use Rattle.packing.proofs.SizeLaws.{product-none, product-ragged, product-exact}
 use Rattle.packing.proofs.packing.is_product.Goals as goal
 

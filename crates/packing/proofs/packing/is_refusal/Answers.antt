@@ -1,6 +1,5 @@
 -- `packing::is_refusal` meets its contract.
 -- Assumes nothing.
-use borrow.Author.Rules.{rules}
 use Rattle.packing.specs.Algorithm.Sizes.{refuses}
 use Rattle.packing.proofs.packing.is_refusal.Goals as goal
 

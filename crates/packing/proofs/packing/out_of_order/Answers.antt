@@ -1,7 +1,6 @@
 -- `packing::out_of_order` meets its contract.
 -- Assumes nothing.
 use native.Mathlib.Omega.{arith}
-use borrow.Author.Rules.{rules}
 use Rattle.below.specs.Below.{◌and◌}
 use Rattle.below.proofs.SearchLaws.{<?-true, <?-false}
 use Rattle.packing.proofs.packing.out_of_order.Goals as goal

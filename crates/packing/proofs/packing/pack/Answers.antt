@@ -1,7 +1,6 @@
 -- `packing::pack` meets its contract.
 -- Assumes nothing.
 use mathlib.Core.Path.{sym, ap, ◌∙◌}
-use borrow.Author.Rules.{rules}
 use Rattle.records.proofs.RuleLaws.{decide-accepted}
 use Rattle.records.specs.Outcome.{outcome_of}
 use Rattle.packing.proofs.PackLaws.{pack-sizes, pack-refuses}

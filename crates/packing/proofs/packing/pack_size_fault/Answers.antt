@@ -1,8 +1,6 @@
 -- `packing::pack_size_fault` meets its contract.
 -- Assumes nothing.
 use mathlib.Core.Path.{sym, ◌∙◌}
-use borrow.Author.Tests.{not-true, not-false}
-use borrow.Author.Rules.{rules}
 use Rattle.records.specs.Rules.{decide}
 use Rattle.below.specs.Below.{◌or◌, isnt}
 use Rattle.below.proofs.SearchLaws.{=?-true, <?-true, <?-false}

@@ -2,7 +2,6 @@
 -- Assumes nothing.
 use mathlib.Core.Path.{sym, ◌∙◌}
 use native.Mathlib.Omega.{arith}
-use borrow.Author.Rules.{rules}
 use Rattle.packing.proofs.PackLaws.{pack-length, pack-fragments, pack-refuses, refused-untouched, kept-written, kept-fragments}
 use Rattle.packing.proofs.SizeLaws.{pack-m}
 use Rattle.packing.proofs.packing.pack_sized.Goals as goal

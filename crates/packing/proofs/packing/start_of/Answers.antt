@@ -2,7 +2,6 @@
 -- Assumes nothing.
 use mathlib.Core.Path.{refl, ◌∙◌}
 use native.Mathlib.Omega.{arith}
-use borrow.Author.Rules.{rules}
 use Rattle.below.proofs.RowLaws.{product-fits}
 use Rattle.packing.proofs.FragmentLaws.{row-start}
 use Rattle.packing.proofs.packing.start_of.Goals as goal

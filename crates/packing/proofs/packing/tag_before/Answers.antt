@@ -1,12 +1,9 @@
 -- `packing::tag_before` meets its contract. The loop's invariant: no fragment before h has the tag sought.
-use mathlib.Core.Path.{◌≡◌, refl, sym, ◌∙◌}
-use Prim.Native.Nat.{◌-◌, ◌≤◌}
+use mathlib.Core.Path.{refl, sym, ◌∙◌}
 use native.Mathlib.Omega.{arith}
-use lib.ListN.{get_or}
 use borrow.Author.Rules.{rules}
 use Rattle.records.specs.Rules.{tag_twice}
-use Rattle.below.specs.Below.{◌=?◌}
-use Rattle.below.proofs.SearchLaws.{NoneBelow, none_yet, none_more, any-hit, any_none, =?-true, =?-false}
+use Rattle.below.proofs.SearchLaws.{none_yet, none_more, any-hit, any_none, =?-true, =?-false}
 use Rattle.packing.proofs.packing.tag_before.Goals as goal
 
 pub loop-h-init : goal.loop-h-init

@@ -1,13 +1,10 @@
 -- `packing::tag_before` meets its contract. The loop's invariant: no fragment before h has the tag sought.
 -- Assumes nothing.
-use mathlib.Core.Path.{◌≡◌, refl, sym, ◌∙◌}
+use mathlib.Core.Path.{◌≡◌}
 use Prim.Native.Nat.{◌-◌, ◌≤◌}
-use native.Mathlib.Omega.{arith}
 use lib.ListN.{get_or}
-use borrow.Author.Rules.{rules}
-use Rattle.records.specs.Rules.{tag_twice}
 use Rattle.below.specs.Below.{◌=?◌}
-use Rattle.below.proofs.SearchLaws.{NoneBelow, none_yet, none_more, any-hit, any_none, =?-true, =?-false}
+use Rattle.below.proofs.SearchLaws.{NoneBelow}
 use Rattle.packing.proofs.packing.tag_before.Given as goal
 
 abbrev pub invariant-loop-h : goal.invariant-loop-h

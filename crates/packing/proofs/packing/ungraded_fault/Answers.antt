@@ -12,7 +12,6 @@ use mathlib.Core.List.{[], ◌∷◌}
 use Prim.Native.Nat.{ℕ, ◌+◌, ◌*◌, ◌-◌, ◌≤◌}
 use native.Mathlib.Omega.{arith}
 use lib.ListN.{length}
-use borrow.Author.Rules.{rules}
 use Rattle.below.specs.Below.{◌=?◌, ◌<?◌, any_below}
 use Rattle.records.specs.Outcome.{accepted}
 use Rattle.fields.specs.Writing.{calls_span_of, without_calls, row_of}

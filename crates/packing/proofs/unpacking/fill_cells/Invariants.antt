@@ -2,20 +2,11 @@
 -- Assumes nothing.
 -- the turn's fragment is one of the m
 -- its row lies within the cells
-use Rattle.std.specs.Prelude.{if◌then◌else◌}
-use mathlib.Core.Path.{◌≡◌, refl, sym, ap, ◌∙◌}
-use Prim.Native.Nat.{ℕ, ◌+◌, ◌*◌, ◌-◌, ◌≤◌, ◌<◌}
-use native.Mathlib.Omega.{arith}
-use native.Mathlib.Nat.{zero-mul, add-sub_cancel_left, mul-le-mul_right}
+use mathlib.Core.Path.{◌≡◌}
+use Prim.Native.Nat.{◌*◌, ◌-◌}
 use lib.ListN.{get_or}
-use borrow.Author.Rules.{rules}
-use borrow.Rule.Slice.PartMut.{same_len_mid, mid_len}
-use Rattle.below.specs.Below.{◌<?◌, tab}
-use Rattle.fields.specs.Record.{code_at}
 use Rattle.fields.specs.Table.{fragments, unpacked_cells}
-use Rattle.below.proofs.FillLaws.{Filled, filled_none, filled-part, filled-all}
-use Rattle.below.proofs.RowLaws.{tab-ext, tab-again, row_within, row_next}
-use Rattle.packing.proofs.UnpackLaws.{unpacked-row, unpacked-length}
+use Rattle.below.proofs.FillLaws.{Filled}
 use Rattle.packing.proofs.unpacking.fill_cells.Given as goal
 
 abbrev pub invariant-loop-i : goal.invariant-loop-i

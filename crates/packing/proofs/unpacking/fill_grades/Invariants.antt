@@ -1,11 +1,7 @@
-use Prim.Native.Nat.{◌-◌, ◌<◌}
-use mathlib.Core.Path.{sym, ap, ◌∙◌}
+use Prim.Native.Nat.{◌-◌}
 use Rattle.fields.specs.Record.{grade_of}
-use Rattle.fields.specs.Table.{fragments, record_bytes_at, unpacked_grades}
-use Rattle.fields.proofs.PartLaws.{part-record}
-use Rattle.below.proofs.FillLaws.{Filled, filled_none, filled_more, filled-all}
-use borrow.Author.Rules.{rules}
-use native.Mathlib.Omega.{arith}
+use Rattle.fields.specs.Table.{fragments, record_bytes_at}
+use Rattle.below.proofs.FillLaws.{Filled}
 use Rattle.packing.proofs.unpacking.fill_grades.Given as goal
 
 abbrev pub invariant-loop-i : goal.invariant-loop-i

@@ -1,10 +1,9 @@
-use Prim.Native.Nat.{◌-◌, ◌<◌}
+use Prim.Native.Nat.{◌<◌}
 use mathlib.Core.Path.{sym, ap, ◌∙◌}
 use Rattle.fields.specs.Record.{tag_of}
-use Rattle.fields.specs.Table.{fragments, record_bytes_at, unpacked_tags}
+use Rattle.fields.specs.Table.{fragments, unpacked_tags}
 use Rattle.fields.proofs.PartLaws.{part-record}
-use Rattle.below.proofs.FillLaws.{Filled, filled_none, filled_more, filled-all}
-use borrow.Author.Rules.{rules}
+use Rattle.below.proofs.FillLaws.{filled_none, filled_more, filled-all}
 use native.Mathlib.Omega.{arith}
 use Rattle.packing.proofs.unpacking.fill_tags.Goals as goal
 

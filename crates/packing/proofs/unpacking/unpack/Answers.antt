@@ -1,7 +1,6 @@
 use mathlib.Core.Path.{sym, ap, ◌∙◌}
 use Rattle.records.specs.Outcome.{outcome_of}
 use Rattle.packing.proofs.UnpackLaws.{unpack-sizes, unpack-refuses}
-use borrow.Author.Rules.{rules}
 use Rattle.packing.proofs.unpacking.unpack.Goals as goal
 
 clauses-outcome-cells-tags-grades : {A B C D : Type 0} → A × (B × (C × D)) → record { outcome : A; cells : B; tags : C; grades : D }

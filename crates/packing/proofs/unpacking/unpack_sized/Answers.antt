@@ -8,7 +8,6 @@ use Rattle.conflicts.specs.Services.{unpack_leaves}
 use Rattle.records.proofs.AcceptedLaws.{sized-count, sized-n, sized-m}
 use Rattle.below.proofs.RowLaws.{product-fits}
 use Rattle.packing.proofs.UnpackLaws.{unpack-cells, unpack-tags, unpack-grades, unpack-records, unpack-refuses, unpack-accepts}
-use borrow.Author.Rules.{rules}
 use Rattle.packing.proofs.unpacking.unpack_sized.Goals as goal
 use Rattle.packing.proofs.unpacking.unpack_sized.Goals.{Else-grades-m}
 

@@ -1,12 +1,12 @@
 -- `patterns::charge` meets its contract. The loop's invariant: the masks below the counter are charged, and the others not yet.
 use mathlib.Core.Path.{◌≡◌, ap, sym, subst, ◌∙◌}
-use Prim.Native.Nat.{ℕ, ◌+◌, ◌*◌, ◌-◌, ◌≤◌, zero-le}
+use Prim.Native.Nat.{ℕ, ◌+◌, ◌*◌, zero-le}
 use native.Mathlib.Omega.{arith}
 use borrow.Author.Rules.{rules}
 use Rattle.ranks.specs.Algorithm.Weight.{top}
 use Rattle.ranks.specs.Algorithm.Tables.{at, Sweep}
 use Rattle.ranks.proofs.TableLaws.{put_as, sweep-none, sweep-more}
-use Rattle.patterns.specs.Algorithm.Patterns.{Patterns, PatternRoom, slot_cost}
+use Rattle.patterns.specs.Algorithm.Patterns.{PatternRoom, slot_cost}
 use Rattle.patterns.proofs.RoomLaws.{inside_of, patterns-put}
 use Rattle.patterns.proofs.patterns.charge.Goals as goal
 

@@ -1,16 +1,10 @@
 -- `patterns::enter` meets its contract. The loop's invariant: the masks below the counter have the fragment before them, and the others not yet.
 -- Assumes nothing.
-use mathlib.Core.Path.{◌≡◌, refl, sym, subst, ◌∙◌}
-use Prim.Native.Nat.{◌-◌, ◌≤◌, zero-le}
-use native.Mathlib.Omega.{arith}
-use borrow.Author.Rules.{rules}
-use Rattle.ranks.specs.Algorithm.Weight.{place}
+use Prim.Native.Nat.{◌-◌, ◌≤◌}
 use Rattle.ranks.specs.Algorithm.Tables.{at, Sweep}
-use Rattle.ranks.proofs.TableLaws.{put_as, sweep-none, sweep-more}
 use Rattle.events.specs.Algorithm.Weights.{side_weight}
 use Rattle.events.specs.Algorithm.Slots.{entered}
-use Rattle.patterns.specs.Algorithm.Patterns.{Patterns, Alone, PatternRoom, PatternsRoom}
-use Rattle.patterns.proofs.RoomLaws.{inside_of, patterns-put, alone_of, room-less, room-parts, room-put, entered-is}
+use Rattle.patterns.specs.Algorithm.Patterns.{Patterns, Alone, PatternsRoom}
 use Rattle.patterns.proofs.patterns.enter.Given as goal
 
 abbrev pub invariant-loop-mask : goal.invariant-loop-mask

@@ -2,7 +2,6 @@
 -- Assumes nothing.
 use mathlib.Core.Path.{ap₂, ◌∙◌}
 use Prim.Native.Nat.{◌+◌, min}
-use borrow.Author.Rules.{rules}
 use Rattle.conflicts.specs.Corrections.{side_price}
 use Rattle.patterns.specs.Algorithm.Patterns.{slot_cost}
 use Rattle.patterns.proofs.patterns.mask_cost.Goals as goal

@@ -1,6 +1,6 @@
 -- `patterns::slot_total` meets its contract. The loop's invariant: the total is that of the slots passed.
 use mathlib.Core.Path.{◌≡◌, refl, ap, ◌∙◌}
-use Prim.Native.Nat.{ℕ, ◌-◌, ◌≤◌, zero-le}
+use Prim.Native.Nat.{ℕ, zero-le}
 use native.Mathlib.Omega.{arith}
 use borrow.Author.Rules.{rules}
 use Rattle.below.specs.Below.{sum_below}

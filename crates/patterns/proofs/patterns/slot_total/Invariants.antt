@@ -1,12 +1,9 @@
 -- `patterns::slot_total` meets its contract. The loop's invariant: the total is that of the slots passed.
 -- Assumes nothing.
-use mathlib.Core.Path.{◌≡◌, refl, ap, ◌∙◌}
-use Prim.Native.Nat.{ℕ, ◌-◌, ◌≤◌, zero-le}
-use native.Mathlib.Omega.{arith}
-use borrow.Author.Rules.{rules}
+use mathlib.Core.Path.{◌≡◌}
+use Prim.Native.Nat.{◌-◌, ◌≤◌}
 use Rattle.below.specs.Below.{sum_below}
-use Rattle.patterns.specs.Algorithm.Patterns.{slot_share, slot_total_of}
-use Rattle.patterns.proofs.PriceLaws.{total-none, total-more, total-few}
+use Rattle.patterns.specs.Algorithm.Patterns.{slot_share}
 use Rattle.patterns.proofs.patterns.slot_total.Given as goal
 
 abbrev pub invariant-loop-b : goal.invariant-loop-b

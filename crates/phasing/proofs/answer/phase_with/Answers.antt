@@ -1,6 +1,5 @@
 -- `answer::phase_with` meets its contract.
 -- Assumes nothing.
-use borrow.Author.Rules.{rules}
 use mathlib.Core.Path.{◌∙◌}
 use Rattle.phasing.proofs.AnswerLaws.{answer-yes, answer-no}
 use Rattle.phasing.proofs.answer.phase_with.Goals as goal

@@ -1,7 +1,6 @@
 -- `haplotypes::fill_codes` meets its contract. The invariant: the columns passed have their codes.
 use borrow.Author.Rules.{rules}
-use Prim.Native.Nat.{◌-◌}
-use Rattle.below.proofs.FillLaws.{Filled, filled_none, filled_more, filled-all}
+use Rattle.below.proofs.FillLaws.{filled_none, filled_more, filled-all}
 use Rattle.conflicts.specs.Choice.{marked}
 use Rattle.phasing.specs.Algorithm.Haplotypes.{line_code}
 use Rattle.phasing.proofs.haplotypes.fill_codes.Goals as goal

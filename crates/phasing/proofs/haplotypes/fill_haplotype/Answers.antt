@@ -1,6 +1,5 @@
 -- `haplotypes::fill_haplotype` meets its contract.
 -- Assumes nothing.
-use borrow.Author.Rules.{rules}
 use mathlib.Core.Path.{ap, ◌∙◌}
 use Rattle.below.specs.Below.{tab}
 use Rattle.places.specs.declared.lines.Line.{Line}

@@ -1,7 +1,6 @@
 -- `haplotypes::merged` meets its contract. The invariant: the lines of the fragments passed are merged.
 use borrow.Author.Rules.{rules}
-use mathlib.Core.Path.{◌≡◌, refl}
-use Prim.Native.Nat.{◌-◌, ◌≤◌}
+use mathlib.Core.Path.{refl}
 use Rattle.phasing.specs.Algorithm.Haplotypes.{merged_line}
 use Rattle.phasing.proofs.HaplotypeLaws.{merged-more, merged-end}
 use Rattle.phasing.proofs.haplotypes.merged.Goals as goal

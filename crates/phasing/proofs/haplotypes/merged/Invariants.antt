@@ -1,10 +1,8 @@
 -- `haplotypes::merged` meets its contract. The invariant: the lines of the fragments passed are merged.
 -- Assumes nothing.
-use borrow.Author.Rules.{rules}
-use mathlib.Core.Path.{◌≡◌, refl}
+use mathlib.Core.Path.{◌≡◌}
 use Prim.Native.Nat.{◌-◌, ◌≤◌}
 use Rattle.phasing.specs.Algorithm.Haplotypes.{merged_line}
-use Rattle.phasing.proofs.HaplotypeLaws.{merged-more, merged-end}
 use Rattle.phasing.proofs.haplotypes.merged.Given as goal
 
 abbrev pub invariant-loop-i : goal.invariant-loop-i

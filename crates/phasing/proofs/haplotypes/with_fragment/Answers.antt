@@ -1,6 +1,5 @@
 -- `haplotypes::with_fragment` meets its contract.
 -- Assumes nothing.
-use borrow.Author.Rules.{rules}
 use mathlib.Core.Path.{refl, ap, ◌∙◌}
 use Rattle.below.proofs.SearchLaws.{=?-true, =?-false}
 use Rattle.places.specs.Algorithm.Places.{either_line}

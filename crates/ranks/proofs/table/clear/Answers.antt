@@ -1,8 +1,5 @@
-use Prim.Native.Nat.{◌-◌}
 use mathlib.Core.Path.{refl, ◌∙◌}
-use lib.ListN.{length}
-use Rattle.below.proofs.FillLaws.{Filled, filled_none, filled_more, filled-all, tab-const}
-use borrow.Author.Rules.{rules}
+use Rattle.below.proofs.FillLaws.{filled_none, filled_more, filled-all, tab-const}
 use native.Mathlib.Omega.{arith}
 use Rattle.ranks.proofs.table.clear.Goals as goal
 

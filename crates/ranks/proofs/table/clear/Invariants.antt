@@ -1,9 +1,6 @@
 use Prim.Native.Nat.{◌-◌}
-use mathlib.Core.Path.{refl, ◌∙◌}
 use lib.ListN.{length}
-use Rattle.below.proofs.FillLaws.{Filled, filled_none, filled_more, filled-all, tab-const}
-use borrow.Author.Rules.{rules}
-use native.Mathlib.Omega.{arith}
+use Rattle.below.proofs.FillLaws.{Filled}
 use Rattle.ranks.proofs.table.clear.Given as goal
 
 abbrev pub invariant-loop-k : goal.invariant-loop-k

@@ -1,7 +1,6 @@
 -- `table::put` meets its contract.
 -- Assumes nothing.
 use mathlib.Core.Path.{refl}
-use borrow.Author.Rules.{rules}
 use Rattle.ranks.proofs.TableLaws.{put-set}
 use Rattle.ranks.proofs.table.put.Goals as goal
 

@@ -4,7 +4,6 @@ use Rattle.records.specs.Rules.{is_out_of_order}
 use Rattle.fields.proofs.PartLaws.{part-record}
 use Rattle.below.proofs.SearchLaws.{<?-true, <?-false}
 use native.Mathlib.Omega.{arith}
-use borrow.Author.Rules.{rules}
 use Rattle.records.proofs.order.out_of_order.Goals as goal
 
 pub returns-then-i-eq0 : goal.returns-then-i-eq0

@@ -1,14 +1,9 @@
 -- record h is whole, and its tag is what the turn reads
-use Prim.Native.Nat.{ℕ, ◌+◌, ◌*◌, ◌-◌, ◌≤◌}
-use native.Mathlib.Nat.{add-sub_cancel_left}
-use mathlib.Core.Path.{◌≡◌, sym, ap, ◌∙◌}
-use lib.ListN.{length, take, drop}
+use Prim.Native.Nat.{◌-◌, ◌≤◌}
 use Rattle.below.specs.Below.{◌=?◌}
 use Rattle.fields.specs.Record.{tag_of}
-use Rattle.fields.specs.Table.{fragments, record_bytes_at}
-use Rattle.below.proofs.SearchLaws.{NoneBelow, none_yet, none_more, any-hit, any_none, =?-true, =?-false}
-use borrow.Author.Rules.{rules}
-use native.Mathlib.Omega.{arith}
+use Rattle.fields.specs.Table.{record_bytes_at}
+use Rattle.below.proofs.SearchLaws.{NoneBelow}
 use Rattle.records.proofs.rules.any_tag.Given as goal
 
 abbrev pub invariant-loop-h : goal.invariant-loop-h

@@ -6,7 +6,6 @@ use Rattle.fields.specs.Record.{tag_of}
 use Rattle.fields.specs.Table.{record_bytes_at, tag_at}
 use Rattle.records.specs.Rules.{tag_twice, earlier_rules}
 use Rattle.records.proofs.RuleLaws.{rule-broken, rule-kept, decide-none}
-use borrow.Author.Rules.{rules}
 use Rattle.records.proofs.rules.earlier_fault.Goals as goal
 use Rattle.records.proofs.rules.earlier_fault.Goals.{After-any_tag}
 

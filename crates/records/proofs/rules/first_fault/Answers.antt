@@ -1,12 +1,8 @@
 use native.Mathlib.Omega.{arith}
-use Prim.Native.Nat.{◌-◌, ◌≤◌}
-use mathlib.Core.Path.{◌≡◌, refl, sym, ap, ◌∙◌}
+use mathlib.Core.Path.{refl, sym, ap, ◌∙◌}
 use Rattle.fields.specs.Table.{fragments}
-use Rattle.records.specs.Outcome.{accepted, outcome_of}
-use Rattle.records.specs.Rules.{decide}
-use Rattle.records.specs.Algorithm.Kept.{rules_of}
-use Rattle.below.specs.Below.{tab, concat}
-use Rattle.records.proofs.RuleLaws.{from_row, rows-begin, rows_end, row_kept, row-broken}
+use Rattle.records.specs.Outcome.{outcome_of}
+use Rattle.records.proofs.RuleLaws.{rows-begin, rows_end, row_kept, row-broken}
 use borrow.Author.Rules.{rules}
 use Rattle.records.proofs.rules.first_fault.Goals as goal
 

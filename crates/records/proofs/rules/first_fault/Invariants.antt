@@ -1,13 +1,11 @@
-use native.Mathlib.Omega.{arith}
 use Prim.Native.Nat.{◌-◌, ◌≤◌}
-use mathlib.Core.Path.{◌≡◌, refl, sym, ap, ◌∙◌}
+use mathlib.Core.Path.{◌≡◌}
 use Rattle.fields.specs.Table.{fragments}
-use Rattle.records.specs.Outcome.{accepted, outcome_of}
+use Rattle.records.specs.Outcome.{accepted}
 use Rattle.records.specs.Rules.{decide}
 use Rattle.records.specs.Algorithm.Kept.{rules_of}
 use Rattle.below.specs.Below.{tab, concat}
-use Rattle.records.proofs.RuleLaws.{from_row, rows-begin, rows_end, row_kept, row-broken}
-use borrow.Author.Rules.{rules}
+use Rattle.records.proofs.RuleLaws.{from_row}
 use Rattle.records.proofs.rules.first_fault.Given as goal
 
 abbrev pub invariant-loop-i : goal.invariant-loop-i

@@ -1,6 +1,5 @@
 use Rattle.records.specs.Rules.{gapless_table_rules}
 use Rattle.records.specs.Algorithm.Kept.{rules_of}
-use borrow.Author.Rules.{rules}
 use Rattle.records.proofs.rules.gapless_fault.Goals as goal
 
 pub returns : goal.returns

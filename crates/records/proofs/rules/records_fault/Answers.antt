@@ -1,6 +1,5 @@
 use Rattle.records.specs.Rules.{table_rules}
 use Rattle.records.specs.Algorithm.Kept.{rules_of}
-use borrow.Author.Rules.{rules}
 use Rattle.records.proofs.rules.records_fault.Goals as goal
 
 pub returns : goal.returns

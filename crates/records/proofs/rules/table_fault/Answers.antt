@@ -2,7 +2,6 @@ use Rattle.records.specs.Rules.{table_verdict}
 use Rattle.records.specs.Outcome.{outcome_of}
 use mathlib.Core.Path.{sym, ap, ◌∙◌}
 use Rattle.records.proofs.RuleLaws.{decide-append, decide-accepted, decide-refused}
-use borrow.Author.Rules.{rules}
 use Rattle.records.proofs.rules.table_fault.Goals as goal
 
 pub returns-in-Refused : goal.returns-in-Refused

@@ -13,7 +13,6 @@ use Rattle.records.specs.Rules.{has_stray_bits, has_unknown_call, has_open_end, 
 use Rattle.records.specs.Algorithm.Kept.{cell_rules}
 use Rattle.records.proofs.RuleLaws.{rule-broken, rule-kept, decide-none}
 use Rattle.records.proofs.SpanLaws.{calls_are, unknown-both, holes-gapped}
-use borrow.Author.Rules.{rules}
 use Rattle.records.proofs.spans.cells_fault.Goals as goal
 use Rattle.records.proofs.spans.cells_fault.Goals.{After-either-calls, After-first-inside, After-hole_refused, After-unknown_call, Else-open_end, Else-stray_bits, Else-unknown_call}
 

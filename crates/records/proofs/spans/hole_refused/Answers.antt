@@ -1,7 +1,6 @@
 use mathlib.Core.Path.{ap, ◌∙◌}
 use Rattle.below.specs.Below.{◌and◌}
 use Rattle.places.specs.Algorithm.Places.{occupied}
-use borrow.Author.Rules.{rules}
 use Rattle.records.proofs.spans.hole_refused.Goals as goal
 
 pub returns-then-gapless : goal.returns-then-gapless

@@ -6,7 +6,6 @@ use Rattle.below.specs.Below.{◌and◌, ◌or◌, isnt}
 use Rattle.records.specs.Rules.{has_open_end}
 use Rattle.below.proofs.SearchLaws.{<?-true, <?-false}
 use Rattle.records.proofs.SpanLaws.{hole-is, a_call, a-hole}
-use borrow.Author.Rules.{rules}
 use Rattle.records.proofs.spans.open_end.Goals as goal
 
 pub returns-then-k-eq0 : goal.returns-then-k-eq0

@@ -1,7 +1,6 @@
 use Rattle.below.specs.Below.{◌and◌, ◌or◌, ◌=?◌, isnt}
 use Rattle.records.specs.Rules.{is_out_of_frame}
 use Rattle.below.proofs.SearchLaws.{<?-true, <?-false, =?-true, =?-false}
-use borrow.Author.Rules.{rules}
 use Rattle.records.proofs.spans.out_of_frame.Goals as goal
 
 pub returns-then-k-gt96 : goal.returns-then-k-gt96

@@ -2,7 +2,6 @@ use mathlib.Core.Path.{sym, ◌∙◌}
 use Rattle.records.specs.Algorithm.Kept.{span_rules_of}
 use Rattle.records.proofs.RuleLaws.{rule-broken, rule-kept}
 use Rattle.records.proofs.FaultLaws.{frame-narrow}
-use borrow.Author.Rules.{rules}
 use Rattle.records.proofs.spans.span_fault.Goals as goal
 
 pub returns-then-out_of_frame : goal.returns-then-out_of_frame

@@ -1,7 +1,6 @@
 use mathlib.Core.Path.{ap, ◌∙◌}
 use Rattle.places.specs.Algorithm.Places.{occupied}
 use Rattle.records.proofs.SpanLaws.{stray-graded, stray-called}
-use borrow.Author.Rules.{rules}
 use Rattle.records.proofs.spans.stray_bits.Goals as goal
 
 pub returns-then-grade-gt15 : goal.returns-then-grade-gt15

@@ -1,6 +1,5 @@
 use mathlib.Core.Path.{ap, ◌∙◌}
 use Rattle.places.specs.Algorithm.Places.{occupied}
-use borrow.Author.Rules.{rules}
 use Rattle.records.proofs.spans.unknown_call.Goals as goal
 
 pub returns : goal.returns

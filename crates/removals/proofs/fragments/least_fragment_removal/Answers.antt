@@ -5,7 +5,6 @@ use Rattle.records.specs.Outcome.{outcome_of}
 use Rattle.stages.proofs.StageLaws.{removal-sized, removal-work, removal-answer, removal-kept}
 use Rattle.removals.proofs.RemovalLaws.{removal-refuses, removal-accepts}
 use Rattle.removals.proofs.TableRemovalLaws.{fragment-leaves}
-use borrow.Author.Rules.{rules}
 use Rattle.removals.proofs.fragments.least_fragment_removal.Goals as goal
 
 clauses-outcome-work-answer-meaning : {A B C D : Type 0} → A × (B × (C × D)) → record { outcome : A; work : B; answer : C; meaning : D }

@@ -7,7 +7,6 @@ use Rattle.records.proofs.AcceptedLaws.{sized-n, sized-m}
 use Rattle.conflicts.proofs.MarkLaws.{all-kept-part}
 use Rattle.conflicts.proofs.SideLaws.{all-length}
 use native.Mathlib.Omega.{arith}
-use borrow.Author.Rules.{rules}
 use Rattle.removals.proofs.snps.remove_snps.Goals as goal
 
 pub slice_bounds-keep-end : goal.slice_bounds-keep-end

@@ -1,6 +1,5 @@
 -- `letters::add_fragment` meets its contract.
 -- Assumes nothing.
-use borrow.Author.Rules.{rules}
 use native.Mathlib.Omega.{arith}
 use Rattle.rewriting.proofs.LetterLaws.{totals-room, totals-more, totals-pass}
 use Rattle.rewriting.proofs.letters.add_fragment.Goals as goal

@@ -1,11 +1,9 @@
 -- `letters::add_row` meets its contract. The invariant: the columns passed have their new totals, the others their old ones.
 use borrow.Author.Rules.{rules}
-use Prim.Native.Nat.{◌-◌}
 use native.Mathlib.Omega.{arith}
 use Rattle.below.specs.Below.{◌=?◌}
 use Rattle.below.proofs.FillLaws.{filled-all}
-use Rattle.rewriting.specs.Algorithm.Letters.{with_row}
-use Rattle.rewriting.proofs.LetterLaws.{Adding, adding-none, adding-more, row-total}
+use Rattle.rewriting.proofs.LetterLaws.{adding-none, adding-more, row-total}
 use Rattle.rewriting.proofs.letters.add_row.Goals as goal
 
 pub loop-c-init : goal.loop-c-init

@@ -1,8 +1,7 @@
 -- `letters::clear_row` meets its contract. The invariant: the columns passed are 0.
 use borrow.Author.Rules.{rules}
 use mathlib.Core.Path.{refl}
-use Prim.Native.Nat.{◌-◌}
-use Rattle.below.proofs.FillLaws.{Filled, filled_none, filled_more, filled-all}
+use Rattle.below.proofs.FillLaws.{filled_none, filled_more, filled-all}
 use Rattle.rewriting.proofs.letters.clear_row.Goals as goal
 
 pub loop-c-init : goal.loop-c-init

@@ -1,9 +1,7 @@
 -- `letters::clear_row` meets its contract. The invariant: the columns passed are 0.
 -- Assumes nothing.
-use borrow.Author.Rules.{rules}
-use mathlib.Core.Path.{refl}
 use Prim.Native.Nat.{◌-◌}
-use Rattle.below.proofs.FillLaws.{Filled, filled_none, filled_more, filled-all}
+use Rattle.below.proofs.FillLaws.{Filled}
 use Rattle.rewriting.proofs.letters.clear_row.Given as goal
 
 abbrev pub invariant-loop-c : goal.invariant-loop-c

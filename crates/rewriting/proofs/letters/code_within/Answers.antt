@@ -1,7 +1,6 @@
 -- `letters::code_within` meets its contract.
 -- Assumes nothing.
 use mathlib.Core.Path.{◌∙◌}
-use borrow.Author.Rules.{rules}
 use Rattle.below.proofs.SearchLaws.{<?-true, <?-false}
 use Rattle.rewriting.proofs.LetterLaws.{if_yes, if_no}
 use Rattle.rewriting.proofs.letters.code_within.Goals as goal

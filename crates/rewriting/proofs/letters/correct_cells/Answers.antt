@@ -1,7 +1,6 @@
 -- `letters::correct_cells` meets its contract.
 -- Assumes nothing.
 use mathlib.Core.Path.{◌∙◌}
-use borrow.Author.Rules.{rules}
 use Rattle.rewriting.proofs.LetterLaws.{all-corrected}
 use Rattle.rewriting.proofs.letters.correct_cells.Goals as goal
 

@@ -1,7 +1,6 @@
 -- `letters::correct_row` meets its contract. The invariant: the columns passed hold their cells.
 use borrow.Author.Rules.{rules}
-use Prim.Native.Nat.{◌-◌}
-use Rattle.below.proofs.FillLaws.{Filled, filled_none, filled_more, filled-all}
+use Rattle.below.proofs.FillLaws.{filled_none, filled_more, filled-all}
 use Rattle.rewriting.specs.Algorithm.Letters.{lettered_in}
 use Rattle.rewriting.proofs.letters.correct_row.Goals as goal
 

@@ -1,8 +1,7 @@
 -- `letters::correct_row` meets its contract. The invariant: the columns passed hold their cells.
 -- Assumes nothing.
-use borrow.Author.Rules.{rules}
 use Prim.Native.Nat.{◌-◌}
-use Rattle.below.proofs.FillLaws.{Filled, filled_none, filled_more, filled-all}
+use Rattle.below.proofs.FillLaws.{Filled}
 use Rattle.rewriting.specs.Algorithm.Letters.{lettered_in}
 use Rattle.rewriting.proofs.letters.correct_row.Given as goal
 

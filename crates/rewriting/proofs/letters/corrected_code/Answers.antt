@@ -1,7 +1,6 @@
 -- `letters::corrected_code` meets its contract.
 -- Assumes nothing.
 use mathlib.Core.Path.{sym, ◌∙◌}
-use borrow.Author.Rules.{rules}
 use Rattle.rewriting.proofs.LetterLaws.{if_yes, if_no}
 use Rattle.rewriting.proofs.letters.corrected_code.Goals as goal
 

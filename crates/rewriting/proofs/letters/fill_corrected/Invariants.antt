@@ -1,12 +1,7 @@
 -- `letters::fill_corrected` meets its contract. The invariant: the rows passed hold their cells.
 -- Assumes nothing.
-use borrow.Author.Rules.{rules}
-use borrow.Rule.Slice.PartMut.{put_mid, same_len_mid, mid_len}
-use mathlib.Core.Path.{◌≡◌, subst, ◌∙◌}
-use Prim.Native.Nat.{ℕ, ◌+◌, ◌*◌, ◌-◌}
-use native.Mathlib.Nat.{add-sub_cancel_left}
-use native.Mathlib.Omega.{arith}
-use Rattle.below.proofs.FillLaws.{Filled, filled_none, filled-part, filled-all}
+use Prim.Native.Nat.{◌*◌, ◌-◌}
+use Rattle.below.proofs.FillLaws.{Filled}
 use Rattle.rewriting.specs.Algorithm.Letters.{lettered_at}
 use Rattle.rewriting.proofs.letters.fill_corrected.Given as goal
 

@@ -1,6 +1,5 @@
 -- `letters::fill_letters` meets its contract.
 -- Assumes nothing.
-use borrow.Author.Rules.{rules}
 use Rattle.rewriting.proofs.LetterLaws.{letters-are}
 use Rattle.rewriting.proofs.letters.fill_letters.Goals as goal
 

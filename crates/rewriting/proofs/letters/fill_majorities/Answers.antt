@@ -1,9 +1,6 @@
 -- `letters::fill_majorities` meets its contract. The invariant: the columns passed have their letters.
 use borrow.Author.Rules.{rules}
-use Prim.Native.Nat.{◌-◌}
-use Rattle.below.specs.Below.{nth}
-use Rattle.below.proofs.FillLaws.{Filled, filled_none, filled_more, filled-all}
-use Rattle.conflicts.specs.Corrections.{majority_letter}
+use Rattle.below.proofs.FillLaws.{filled_none, filled_more, filled-all}
 use Rattle.rewriting.proofs.letters.fill_majorities.Goals as goal
 
 pub loop-c-init : goal.loop-c-init

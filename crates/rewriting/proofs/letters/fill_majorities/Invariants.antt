@@ -1,9 +1,8 @@
 -- `letters::fill_majorities` meets its contract. The invariant: the columns passed have their letters.
 -- Assumes nothing.
-use borrow.Author.Rules.{rules}
 use Prim.Native.Nat.{◌-◌}
 use Rattle.below.specs.Below.{nth}
-use Rattle.below.proofs.FillLaws.{Filled, filled_none, filled_more, filled-all}
+use Rattle.below.proofs.FillLaws.{Filled}
 use Rattle.conflicts.specs.Corrections.{majority_letter}
 use Rattle.rewriting.proofs.letters.fill_majorities.Given as goal
 

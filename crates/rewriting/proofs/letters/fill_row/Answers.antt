@@ -1,6 +1,5 @@
 -- `letters::fill_row` meets its contract.
 -- Assumes nothing.
-use borrow.Author.Rules.{rules}
 use mathlib.Core.Path.{◌∙◌}
 use native.Mathlib.Omega.{arith}
 use Rattle.below.proofs.RowLaws.{tab-ext}

@@ -1,13 +1,7 @@
 -- `letters::letter_totals` meets its contract. The invariant: the totals are those of the fragments passed.
 -- Assumes nothing.
-use borrow.Author.Rules.{rules}
-use mathlib.Core.Path.{◌≡◌, sym, subst, ap, ◌∙◌}
-use mathlib.Core.List.{List}
-use Prim.Native.Nat.{ℕ, ◌-◌, ◌≤◌, zero-le}
-use native.Mathlib.Omega.{arith}
-use lib.ListN.{length}
+use Prim.Native.Nat.{◌-◌, ◌≤◌}
 use Rattle.rewriting.specs.Algorithm.Letters.{Totals}
-use Rattle.rewriting.proofs.LetterLaws.{totals-none}
 use Rattle.rewriting.proofs.letters.letter_totals.Given as goal
 
 abbrev pub invariant-loop-i : goal.invariant-loop-i

@@ -1,5 +1,5 @@
 -- `table::fill_records` meets its contract. The invariant: the bytes passed are the new ones.
-use Prim.Native.Nat.{ℕ, ◌*◌, ◌-◌, ◌/◌, ◌%◌, ◌<◌}
+use Prim.Native.Nat.{ℕ, ◌/◌, ◌%◌, ◌<◌}
 use mathlib.Core.Path.{sym, ap, ◌∙◌}
 use mathlib.Core.List.{List}
 use native.Mathlib.Omega.{arith}
@@ -7,11 +7,10 @@ use lib.ListN.{length, get_or}
 use Rattle.fields.specs.Table.{fragments}
 use Rattle.fields.proofs.PartLaws.{part-record}
 use Rattle.records.proofs.TableLaws.{length-record_bytes_at}
-use Rattle.below.proofs.FillLaws.{Filled, filled_none, filled_more, filled-all}
+use Rattle.below.proofs.FillLaws.{filled_none, filled_more, filled-all}
 use Rattle.conflicts.specs.Answer.{rewritten}
 use Rattle.rewriting.specs.Algorithm.Rewriting.{row_in}
 use Rattle.rewriting.proofs.RewriteLaws.{new_byte_of, records-written}
-use borrow.Author.Rules.{rules}
 use Rattle.rewriting.proofs.table.fill_records.Goals as goal
 use Rattle.rewriting.proofs.table.fill_records.Goals.{In-loop-k}
 

@@ -2,7 +2,6 @@
 -- Assumes nothing.
 use mathlib.Core.Path.{sym}
 use Rattle.conflicts.proofs.CorrectedTableLaws.{rewritten-header}
-use borrow.Author.Rules.{rules}
 use Rattle.rewriting.proofs.table.new_byte.Goals as goal
 
 pub returns-then-b-lt8 : goal.returns-then-b-lt8

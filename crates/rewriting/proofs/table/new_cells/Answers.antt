@@ -6,7 +6,6 @@ use Rattle.writing.proofs.LayoutLaws.{cell_byte_of-of}
 use Rattle.conflicts.specs.Answer.{rewritten_code}
 use Rattle.conflicts.proofs.CorrectedTableLaws.{rewritten-byte-at}
 use Rattle.rewriting.specs.Algorithm.Rewriting.{row_in}
-use borrow.Author.Rules.{rules}
 use Rattle.rewriting.proofs.table.new_cells.Goals as goal
 
 pub returns : goal.returns

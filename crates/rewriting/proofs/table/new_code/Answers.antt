@@ -5,7 +5,6 @@ use Prim.Native.Nat.{ℕ, ◌+◌, ◌*◌}
 use native.Mathlib.Omega.{arith}
 use lib.ListN.{get_or}
 use Rattle.rewriting.proofs.RewriteLaws.{code-within, code-after}
-use borrow.Author.Rules.{rules}
 use Rattle.rewriting.proofs.table.new_code.Goals as goal
 
 pub returns-then-q-span : goal.returns-then-q-span

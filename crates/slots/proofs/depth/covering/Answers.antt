@@ -1,11 +1,9 @@
 -- `depth::covering` meets its contract. The loop's invariant: the count is that of the fragments passed.
 use mathlib.Core.Path.{◌≡◌, ap, ap₂, sym, ◌∙◌}
-use mathlib.Core.Bool.{Bool}
-use mathlib.Core.List.{List}
-use Prim.Native.Nat.{ℕ, ◌+◌, ◌-◌, ◌≤◌}
+use Prim.Native.Nat.{ℕ, ◌+◌}
 use native.Mathlib.Omega.{arith}
 use borrow.Author.Rules.{rules}
-use Rattle.below.specs.Below.{nth, count_below, ◌<?◌, ◌≤?◌, ◌and◌}
+use Rattle.below.specs.Below.{count_below}
 use Rattle.below.proofs.BelowLaws.{count_none, count_next, count-bound}
 use Rattle.slots.specs.Algorithm.Spans.{covered_by}
 use Rattle.slots.proofs.depth.covering.Invariants.{at}

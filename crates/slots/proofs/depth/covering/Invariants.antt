@@ -1,15 +1,11 @@
 -- `depth::covering` meets its contract. The loop's invariant: the count is that of the fragments passed.
 -- Assumes nothing.
 -- fragment i covers column c
-use mathlib.Core.Path.{◌≡◌, ap, ap₂, sym, ◌∙◌}
+use mathlib.Core.Path.{◌≡◌}
 use mathlib.Core.Bool.{Bool}
 use mathlib.Core.List.{List}
-use Prim.Native.Nat.{ℕ, ◌+◌, ◌-◌, ◌≤◌}
-use native.Mathlib.Omega.{arith}
-use borrow.Author.Rules.{rules}
+use Prim.Native.Nat.{ℕ, ◌-◌, ◌≤◌}
 use Rattle.below.specs.Below.{nth, count_below, ◌<?◌, ◌≤?◌, ◌and◌}
-use Rattle.below.proofs.BelowLaws.{count_none, count_next, count-bound}
-use Rattle.slots.specs.Algorithm.Spans.{covered_by}
 use Rattle.slots.proofs.depth.covering.Given as goal
 
 abbrev pub at : List ℕ → List ℕ → ℕ → ℕ → Bool

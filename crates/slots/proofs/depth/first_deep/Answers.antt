@@ -1,13 +1,10 @@
 -- `depth::first_deep` meets its contract. The loop's invariant: no column passed is covered by more than 8 fragments.
 use mathlib.Core.Path.{sym, subst}
-use mathlib.Core.Bool.{Bool}
-use mathlib.Core.List.{List}
-use Prim.Native.Nat.{ℕ, ◌-◌, ◌≤◌, ◌<◌}
+use Prim.Native.Nat.{ℕ, ◌≤◌, ◌<◌}
 use native.Mathlib.Omega.{arith}
 use borrow.Author.Rules.{rules}
-use Rattle.below.specs.Below.{◌<?◌}
-use Rattle.below.proofs.SearchLaws.{NoneBelow, none_yet, none_more, first-hit, first-none, <?-true, <?-false}
-use Rattle.slots.specs.Algorithm.Spans.{covered_by, deep_by}
+use Rattle.below.proofs.SearchLaws.{none_yet, none_more, first-hit, first-none, <?-true, <?-false}
+use Rattle.slots.specs.Algorithm.Spans.{deep_by}
 use Rattle.slots.proofs.depth.first_deep.Invariants.{deep_at}
 use Rattle.slots.proofs.depth.first_deep.Goals as goal
 

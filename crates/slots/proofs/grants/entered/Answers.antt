@@ -1,6 +1,5 @@
 -- `grants::entered` meets its contract.
 -- Assumes nothing.
-use borrow.Author.Rules.{rules}
 use Rattle.below.specs.Below.{◌<?◌}
 use Rattle.slots.proofs.GrantLaws.{begun, ended, not-begun}
 use Rattle.slots.proofs.grants.entered.Goals as goal

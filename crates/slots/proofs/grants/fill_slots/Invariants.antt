@@ -1,12 +1,8 @@
 -- `grants::fill_slots` meets its contract. The loop's invariant: the fragments that start at a column passed have their slots.
 -- Assumes nothing.
-use mathlib.Core.Path.{◌≡◌}
-use Prim.Native.Nat.{◌+◌, ◌*◌, ◌-◌, ◌≤◌, zero-le}
-use native.Mathlib.Omega.{arith}
-use borrow.Author.Rules.{rules}
+use Prim.Native.Nat.{◌+◌, ◌*◌, ◌-◌, ◌≤◌}
 use Rattle.matrix.specs.Algorithm.Matrix.{matrix_grid}
 use Rattle.slots.specs.Algorithm.Spans.{Granted}
-use Rattle.slots.proofs.GrantLaws.{all-granted}
 use Rattle.slots.proofs.grants.fill_slots.Given as goal
 
 abbrev pub invariant-loop-c : goal.invariant-loop-c

@@ -1,10 +1,8 @@
 -- `grants::first_unmarked` meets its contract. The loop's invariant: every slot passed has a mark.
 use mathlib.Core.Path.{sym}
-use Prim.Native.Nat.{ℕ, ◌-◌, ◌≤◌}
 use native.Mathlib.Omega.{arith}
 use borrow.Author.Rules.{rules}
-use Rattle.below.specs.Below.{nth, ◌=?◌}
-use Rattle.below.proofs.SearchLaws.{NoneBelow, none_yet, none_more, first-hit, first-none, =?-true, =?-false}
+use Rattle.below.proofs.SearchLaws.{none_yet, none_more, first-hit, first-none, =?-true, =?-false}
 use Rattle.slots.proofs.grants.first_unmarked.Goals as goal
 
 pub loop-b-init : goal.loop-b-init

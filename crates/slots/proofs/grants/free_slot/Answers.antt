@@ -1,7 +1,6 @@
 -- `grants::free_slot` meets its contract.
 -- Assumes nothing.
 use mathlib.Core.Path.{◌∙◌}
-use borrow.Author.Rules.{rules}
 use Rattle.slots.proofs.GrantLaws.{free-marked}
 use Rattle.slots.proofs.grants.free_slot.Goals as goal
 

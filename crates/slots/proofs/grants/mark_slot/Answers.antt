@@ -1,6 +1,5 @@
 -- `grants::mark_slot` meets its contract.
 -- Assumes nothing.
-use borrow.Author.Rules.{rules}
 use mathlib.Core.Path.{sym, ◌∙◌}
 use native.Mathlib.Omega.{arith}
 use Rattle.slots.proofs.GrantLaws.{marks-pass, marks-more}

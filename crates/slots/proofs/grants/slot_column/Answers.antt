@@ -1,9 +1,8 @@
 -- `grants::slot_column` meets its contract. The loop's invariant: the fragments passed have had their turn.
-use Prim.Native.Nat.{◌+◌, ◌*◌, ◌-◌, ◌≤◌, zero-le}
+use Prim.Native.Nat.{zero-le}
 use native.Mathlib.Omega.{arith}
 use borrow.Author.Rules.{rules}
 use Rattle.matrix.specs.Algorithm.Matrix.{matrix_grid}
-use Rattle.slots.specs.Algorithm.Spans.{Granted}
 use Rattle.slots.proofs.GrantLaws.{column-over}
 use Rattle.slots.proofs.grants.slot_column.Goals as goal
 

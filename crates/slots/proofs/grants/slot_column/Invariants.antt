@@ -1,11 +1,8 @@
 -- `grants::slot_column` meets its contract. The loop's invariant: the fragments passed have had their turn.
 -- Assumes nothing.
-use Prim.Native.Nat.{◌+◌, ◌*◌, ◌-◌, ◌≤◌, zero-le}
-use native.Mathlib.Omega.{arith}
-use borrow.Author.Rules.{rules}
+use Prim.Native.Nat.{◌+◌, ◌*◌, ◌-◌, ◌≤◌}
 use Rattle.matrix.specs.Algorithm.Matrix.{matrix_grid}
 use Rattle.slots.specs.Algorithm.Spans.{Granted}
-use Rattle.slots.proofs.GrantLaws.{column-over}
 use Rattle.slots.proofs.grants.slot_column.Given as goal
 
 abbrev pub invariant-loop-f : goal.invariant-loop-f

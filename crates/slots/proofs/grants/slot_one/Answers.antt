@@ -1,7 +1,6 @@
 -- `grants::slot_one` meets its contract.
 -- Assumes nothing.
 use mathlib.Core.Path.{sym, ◌∙◌}
-use borrow.Author.Rules.{rules}
 use Rattle.matrix.specs.Algorithm.Matrix.{matrix_grid}
 use Rattle.slots.proofs.GrantLaws.{free-is, spans-of, grant, pass}
 use Rattle.slots.proofs.grants.slot_one.Goals as goal

@@ -1,15 +1,9 @@
 -- `spans::end_of` meets its contract. The loop's invariant: the columns from its counter on are not called.
 -- Assumes nothing.
-use mathlib.Core.Path.{◌≡◌, refl, sym, ap, ◌∙◌}
+use mathlib.Core.Path.{◌≡◌}
 use Prim.Native.Nat.{ℕ, ◌+◌, ◌*◌, ◌≤◌}
-use native.Mathlib.Omega.{arith}
 use lib.ListN.{get_or}
-use borrow.Author.Rules.{rules}
 use Rattle.fields.specs.Writing.{calls_end_of}
-use Rattle.below.proofs.BelowLaws.{passes, fails}
-use Rattle.writing.proofs.ScanLaws.{end-hit, end-miss, end_none}
-use Rattle.matrix.specs.Algorithm.Matrix.{matrix_grid}
-use Rattle.slots.specs.Algorithm.Columns.{end_column_of}
 use Rattle.slots.proofs.spans.end_of.Given as goal
 
 abbrev pub invariant-loop-end : goal.invariant-loop-end

@@ -1,16 +1,12 @@
 -- `spans::fill_spans` meets its contract. The loop's invariant: the starts and ends of the fragments passed are written.
 -- Assumes nothing.
-use mathlib.Core.Path.{◌≡◌, refl, ◌∙◌}
-use Prim.Native.Nat.{◌-◌, ◌≤◌, zero-le}
-use native.Mathlib.Omega.{arith}
+use mathlib.Core.Path.{◌≡◌}
+use Prim.Native.Nat.{◌-◌, ◌≤◌}
 use lib.ListN.{length}
-use borrow.Author.Rules.{rules}
 use Rattle.matrix.specs.Algorithm.Matrix.{matrix_grid}
 use Rattle.ranks.specs.Algorithm.Tables.{Sweep}
-use Rattle.ranks.proofs.TableLaws.{put_as, sweep-none, sweep-more}
 use Rattle.slots.specs.Algorithm.Columns.{first_column, end_column_of}
 use Rattle.below.specs.Below.{nth}
-use Rattle.slots.proofs.GrantLaws.{list_put}
 use Rattle.slots.proofs.spans.fill_spans.Given as goal
 
 abbrev pub invariant-loop-i : goal.invariant-loop-i

@@ -1,14 +1,9 @@
 -- `spans::start_of` meets its contract. The loop's invariant: no column passed is called.
 -- Assumes nothing.
-use mathlib.Core.Path.{sym, ◌∙◌}
 use Prim.Native.Nat.{ℕ, ◌+◌, ◌*◌, ◌-◌, ◌≤◌}
-use native.Mathlib.Omega.{arith}
 use lib.ListN.{get_or}
-use borrow.Author.Rules.{rules}
 use Rattle.fields.specs.Record.{is_call_code}
-use Rattle.below.proofs.SearchLaws.{NoneBelow, none_yet, none_more, first-hit, first-none}
-use Rattle.matrix.specs.Algorithm.Matrix.{matrix_grid}
-use Rattle.slots.specs.Algorithm.Columns.{first_column}
+use Rattle.below.proofs.SearchLaws.{NoneBelow}
 use Rattle.slots.proofs.spans.start_of.Given as goal
 
 abbrev pub invariant-loop-c : goal.invariant-loop-c

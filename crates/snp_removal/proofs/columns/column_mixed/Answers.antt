@@ -1,8 +1,6 @@
 -- `columns::column_mixed` meets its contract.
 -- Assumes nothing.
-use borrow.Author.Rules.{rules}
-use mathlib.Core.Path.{ap, ap₂, ◌∙◌}
-use Prim.Native.Nat.{ℕ}
+use mathlib.Core.Path.{ap, ◌∙◌}
 use Rattle.conflicts.specs.declared.Tally.{Tally}
 use Rattle.conflicts.specs.Tally.{tallied, mixed_tally}
 use Rattle.places.specs.declared.lines.Line.{Line}

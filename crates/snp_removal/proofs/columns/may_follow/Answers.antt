@@ -1,6 +1,5 @@
 -- `columns::may_follow` meets its contract.
 -- Assumes nothing.
-use borrow.Author.Rules.{rules}
 use mathlib.Core.Path.{ap₂, ◌∙◌}
 use Rattle.places.specs.Algorithm.Places.{both_kinds}
 use Rattle.snp_removal.proofs.PairLaws.{follows-none, follows-last}

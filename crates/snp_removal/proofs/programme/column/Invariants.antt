@@ -1,18 +1,13 @@
 -- `programme::column` meets its contract. The loop's invariant: the states below j have the column before them, and the others not yet.
 -- Assumes nothing.
-use borrow.Author.Rules.{rules}
-use mathlib.Core.Path.{◌≡◌, refl, sym, subst, ◌∙◌}
-use Prim.Native.Nat.{◌+◌, ◌-◌, ◌≤◌, zero-le}
-use native.Mathlib.Nat.{le_refl}
-use native.Mathlib.Omega.{arith}
+use mathlib.Core.Path.{◌≡◌}
+use Prim.Native.Nat.{◌-◌, ◌≤◌}
 use lib.ListN.{length}
-use Rattle.ranks.specs.Algorithm.Weight.{place, AtMost, removal}
+use Rattle.ranks.specs.Algorithm.Weight.{removal}
 use Rattle.ranks.specs.Algorithm.Reading.{value}
 use Rattle.ranks.specs.Algorithm.Tables.{at, Sweep}
-use Rattle.ranks.proofs.TableLaws.{put_as, sweep-none, sweep-more}
 use Rattle.snp_removal.specs.Algorithm.Columns.{words_follow}
 use Rattle.snp_removal.specs.Algorithm.Programme.{if_follows}
-use Rattle.snp_removal.proofs.StateLaws.{turn}
 use Rattle.snp_removal.proofs.programme.column.Given as goal
 
 abbrev pub invariant-loop-j : goal.invariant-loop-j

@@ -1,7 +1,7 @@
 -- `programme::extend` meets its contract.
 -- Assumes nothing.
 use borrow.Author.Rules.{rules}
-use mathlib.Core.Path.{refl, sym, ◌∙◌}
+use mathlib.Core.Path.{refl, ◌∙◌}
 use native.Mathlib.Omega.{arith}
 use Rattle.masks.specs.Algorithm.Masks.{words_grid}
 use Rattle.ranks.specs.Algorithm.Tables.{at}

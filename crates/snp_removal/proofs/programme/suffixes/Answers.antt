@@ -1,9 +1,8 @@
 -- `programme::suffixes` meets its contract. The loop's invariant: the table holds the weights of the last k columns.
 use borrow.Author.Rules.{rules}
-use mathlib.Core.Path.{◌≡◌, refl, subst}
-use Prim.Native.Nat.{ℕ, ◌-◌, ◌≤◌}
+use mathlib.Core.Path.{refl, subst}
+use Prim.Native.Nat.{ℕ}
 use native.Mathlib.Nat.{le_antisymm}
-use lib.ListN.{length}
 use Rattle.masks.specs.Algorithm.Masks.{words_grid}
 use Rattle.ranks.specs.Algorithm.Tables.{at}
 use Rattle.snp_removal.specs.Algorithm.Programme.{HoldsColumns}

@@ -1,9 +1,7 @@
 -- `programme::suffixes` meets its contract. The loop's invariant: the table holds the weights of the last k columns.
 -- Assumes nothing.
-use borrow.Author.Rules.{rules}
-use mathlib.Core.Path.{◌≡◌, refl, subst}
-use Prim.Native.Nat.{ℕ, ◌-◌, ◌≤◌}
-use native.Mathlib.Nat.{le_antisymm}
+use mathlib.Core.Path.{◌≡◌}
+use Prim.Native.Nat.{◌-◌, ◌≤◌}
 use lib.ListN.{length}
 use Rattle.masks.specs.Algorithm.Masks.{words_grid}
 use Rattle.ranks.specs.Algorithm.Tables.{at}

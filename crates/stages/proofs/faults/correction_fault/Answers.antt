@@ -3,7 +3,6 @@
 use mathlib.Core.Path.{sym, ap, ◌∙◌}
 use Rattle.records.specs.Outcome.{outcome_of}
 use Rattle.stages.proofs.StageLaws.{correction-lent, correction-length, correction-records}
-use borrow.Author.Rules.{rules}
 use Rattle.stages.proofs.faults.correction_fault.Goals as goal
 
 pub returns-then-corrected-table : goal.returns-then-corrected-table

@@ -3,7 +3,6 @@
 use mathlib.Core.Path.{sym, ap, ◌∙◌}
 use Rattle.records.specs.Outcome.{outcome_of}
 use Rattle.stages.proofs.StageLaws.{lent-sizes}
-use borrow.Author.Rules.{rules}
 use Rattle.stages.proofs.faults.lent_fault.Goals as goal
 
 pub lengths_fault-requires : goal.lengths_fault-requires

@@ -3,7 +3,6 @@
 use mathlib.Core.Path.{sym, ap, ◌∙◌}
 use Rattle.records.specs.Outcome.{outcome_of}
 use Rattle.stages.proofs.StageLaws.{removal-lent, removal-records}
-use borrow.Author.Rules.{rules}
 use Rattle.stages.proofs.faults.removal_fault.Goals as goal
 
 pub returns-in-Refused : goal.returns-in-Refused

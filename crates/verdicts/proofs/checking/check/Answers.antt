@@ -1,7 +1,6 @@
 use mathlib.Core.Path.{sym, ap, ◌∙◌}
 use Rattle.records.specs.Outcome.{outcome_of}
 use Rattle.verdicts.proofs.CheckLaws.{check-sizes, check-refuses, check-means}
-use borrow.Author.Rules.{rules}
 use Rattle.verdicts.proofs.checking.check.Goals as goal
 
 pub check_sized-requires : goal.check_sized-requires

@@ -10,7 +10,6 @@ use Rattle.conflicts.specs.Answer.{answer_size}
 use Rattle.records.proofs.AcceptedLaws.{sized-n, sized-m}
 use Rattle.verdicts.proofs.CheckLaws.{check-length, check-records, check-refuses, check-says}
 use native.Mathlib.Omega.{arith}
-use borrow.Author.Rules.{rules}
 use Rattle.verdicts.proofs.checking.check_sized.Goals as goal
 use Rattle.verdicts.proofs.checking.check_sized.Goals.{After-phase_table}
 

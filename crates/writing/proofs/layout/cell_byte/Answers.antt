@@ -1,6 +1,5 @@
 -- `layout::cell_byte` meets its contract.
 -- Assumes nothing.
-use borrow.Author.Rules.{rules}
 use Rattle.fields.specs.Writing.{codes_of}
 use Rattle.writing.proofs.LayoutLaws.{cell_byte_of-of}
 use Rattle.writing.proofs.layout.cell_byte.Goals as goal

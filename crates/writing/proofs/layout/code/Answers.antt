@@ -1,7 +1,6 @@
 -- `layout::code` meets its contract.
 -- Assumes nothing.
 use native.Mathlib.Omega.{arith}
-use borrow.Author.Rules.{rules}
 use Rattle.writing.proofs.layout.code.Goals as goal
 
 pub returns : goal.returns

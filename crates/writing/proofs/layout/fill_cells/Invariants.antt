@@ -1,10 +1,8 @@
 -- `layout::fill_cells` meets its contract. The loop's invariant: the first b bytes are those of the cells.
 -- Assumes nothing.
-use mathlib.Core.Path.{sym, ◌∙◌}
 use Prim.Native.Nat.{◌-◌}
-use native.Mathlib.Omega.{arith}
-use Rattle.below.proofs.FillLaws.{Filled, filled_none, filled_more, filled-all}
-use Rattle.fields.specs.Writing.{cell_bytes, codes_of}
+use Rattle.below.proofs.FillLaws.{Filled}
+use Rattle.fields.specs.Writing.{codes_of}
 use Rattle.writing.proofs.LayoutLaws.{cell_byte_of}
 use Rattle.writing.proofs.layout.fill_cells.Given as goal
 

@@ -1,10 +1,7 @@
 -- `layout::fill_header` meets its contract. The loop's invariant: the first k bytes are those of the header.
 use mathlib.Core.Path.{sym, ◌∙◌}
-use Prim.Native.Nat.{◌-◌}
 use native.Mathlib.Omega.{arith}
-use lib.ListN.{get_or}
-use Rattle.below.proofs.FillLaws.{Filled, filled_none, filled_more, filled-all}
-use Rattle.writing.proofs.LayoutLaws.{header}
+use Rattle.below.proofs.FillLaws.{filled_none, filled_more, filled-all}
 use Rattle.writing.proofs.layout.fill_header.Goals as goal
 
 pub loop-k-init : goal.loop-k-init

@@ -1,10 +1,8 @@
 -- `layout::fill_header` meets its contract. The loop's invariant: the first k bytes are those of the header.
 -- Assumes nothing.
-use mathlib.Core.Path.{sym, ◌∙◌}
 use Prim.Native.Nat.{◌-◌}
-use native.Mathlib.Omega.{arith}
 use lib.ListN.{get_or}
-use Rattle.below.proofs.FillLaws.{Filled, filled_none, filled_more, filled-all}
+use Rattle.below.proofs.FillLaws.{Filled}
 use Rattle.writing.proofs.LayoutLaws.{header}
 use Rattle.writing.proofs.layout.fill_header.Given as goal
 

@@ -2,7 +2,6 @@
 -- Assumes nothing.
 use mathlib.Core.Path.{sym, ◌∙◌}
 use native.Mathlib.Omega.{arith}
-use borrow.Author.Rules.{rules}
 use Rattle.writing.proofs.LayoutLaws.{tag-byte-at, frame-byte-at}
 use Rattle.writing.proofs.layout.header_byte.Goals as goal
 

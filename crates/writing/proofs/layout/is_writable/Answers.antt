@@ -2,7 +2,6 @@
 -- Assumes nothing.
 use native.Mathlib.Omega.{arith}
 use lib.ListN.{length}
-use borrow.Author.Rules.{rules}
 use Rattle.fields.specs.Writing.{codes_of}
 use Rattle.writing.proofs.LayoutLaws.{wide-refused, unknown-refused, writable-by-span}
 use Rattle.below.proofs.BelowLaws.{passes, fails}

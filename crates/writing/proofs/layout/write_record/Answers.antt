@@ -5,8 +5,6 @@ use mathlib.Core.Path.{◌≡◌, ap₂}
 use Prim.Native.Nat.{◌-◌}
 use native.Mathlib.Omega.{arith}
 use lib.ListN.{length}
-use borrow.Author.Tests.{not-true, not-false}
-use borrow.Author.Rules.{rules}
 use Rattle.fields.specs.Writing.{calls_span_of, codes_of}
 use Rattle.writing.proofs.LayoutLaws.{writable-narrow, not-long, not-graded, not-writable, written}
 use Rattle.writing.proofs.ScanLaws.{span_fits, start-le-end}

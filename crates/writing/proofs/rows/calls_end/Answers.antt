@@ -1,8 +1,7 @@
 -- `rows::calls_end` meets its contract. The loop's invariant: the calls of the row end where those of its first `end` columns end.
 use mathlib.Core.Path.{◌≡◌, refl, sym, ap, ◌∙◌}
-use Prim.Native.Nat.{ℕ, ◌≤◌}
+use Prim.Native.Nat.{ℕ}
 use native.Mathlib.Omega.{arith}
-use lib.ListN.{length}
 use borrow.Author.Rules.{rules}
 use Rattle.fields.specs.Writing.{calls_end_of, codes_of}
 use Rattle.writing.proofs.ScanLaws.{end-hit, end-miss, end_none}

@@ -1,13 +1,9 @@
 -- `rows::calls_end` meets its contract. The loop's invariant: the calls of the row end where those of its first `end` columns end.
 -- Assumes nothing.
-use mathlib.Core.Path.{◌≡◌, refl, sym, ap, ◌∙◌}
-use Prim.Native.Nat.{ℕ, ◌≤◌}
-use native.Mathlib.Omega.{arith}
+use mathlib.Core.Path.{◌≡◌}
+use Prim.Native.Nat.{◌≤◌}
 use lib.ListN.{length}
-use borrow.Author.Rules.{rules}
 use Rattle.fields.specs.Writing.{calls_end_of, codes_of}
-use Rattle.writing.proofs.ScanLaws.{end-hit, end-miss, end_none}
-use Rattle.below.proofs.BelowLaws.{passes, fails}
 use Rattle.writing.proofs.rows.calls_end.Given as goal
 
 abbrev pub invariant-loop-end : goal.invariant-loop-end

@@ -4,7 +4,6 @@ use mathlib.Core.Path.{ap₂}
 use Prim.Native.Nat.{ℕ, ◌-◌}
 use native.Mathlib.Omega.{arith}
 use lib.ListN.{length}
-use borrow.Author.Rules.{rules}
 use Rattle.fields.specs.Writing.{calls_span_of, codes_of}
 use Rattle.writing.proofs.ScanLaws.{start-le-end}
 use Rattle.writing.proofs.rows.calls_span.Goals as goal

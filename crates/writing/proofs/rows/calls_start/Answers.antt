@@ -1,12 +1,11 @@
 -- `rows::calls_start` meets its contract. The loop's invariant: no call stands before column c.
 use mathlib.Core.Path.{sym, ◌∙◌}
-use Prim.Native.Nat.{◌-◌, ◌≤◌}
 use native.Mathlib.Omega.{arith}
 use lib.ListN.{length}
 use borrow.Author.Rules.{rules}
 use Rattle.fields.specs.Writing.{codes_of}
 use Rattle.writing.proofs.ScanLaws.{start-hit, start-miss}
-use Rattle.below.proofs.SearchLaws.{NoneBelow, none_yet, none_more}
+use Rattle.below.proofs.SearchLaws.{none_yet, none_more}
 use Rattle.records.proofs.ExtentLaws.{calls}
 use Rattle.writing.proofs.rows.calls_start.Goals as goal
 

@@ -1,13 +1,9 @@
 -- `rows::calls_start` meets its contract. The loop's invariant: no call stands before column c.
 -- Assumes nothing.
-use mathlib.Core.Path.{sym, ◌∙◌}
 use Prim.Native.Nat.{◌-◌, ◌≤◌}
-use native.Mathlib.Omega.{arith}
 use lib.ListN.{length}
-use borrow.Author.Rules.{rules}
 use Rattle.fields.specs.Writing.{codes_of}
-use Rattle.writing.proofs.ScanLaws.{start-hit, start-miss}
-use Rattle.below.proofs.SearchLaws.{NoneBelow, none_yet, none_more}
+use Rattle.below.proofs.SearchLaws.{NoneBelow}
 use Rattle.records.proofs.ExtentLaws.{calls}
 use Rattle.writing.proofs.rows.calls_start.Given as goal
 

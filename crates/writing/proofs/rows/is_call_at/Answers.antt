@@ -1,7 +1,6 @@
 -- `rows::is_call_at` meets its contract.
 -- Assumes nothing.
 use mathlib.Core.Path.{ap, ◌∙◌}
-use borrow.Author.Rules.{rules}
 use Rattle.fields.specs.Record.{is_call_code}
 use Rattle.writing.proofs.rows.is_call_at.Goals as goal
 

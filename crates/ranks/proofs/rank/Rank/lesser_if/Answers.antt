@@ -1,6 +1,5 @@
 -- `Rank::lesser_if` meets its contract.
 -- Assumes nothing.
-use borrow.Author.Rules.{rules}
 use Rattle.ranks.proofs.rank.Rank.lesser_if.Goals as goal
 
 pub returns-then-may : goal.returns-then-may

@@ -1,6 +1,5 @@
 -- `Rank::single` meets its contract.
 -- Assumes nothing.
-use borrow.Author.Rules.{rules}
 use Rattle.ranks.proofs.WordLaws.{high-single, low-single}
 use Rattle.ranks.proofs.rank.Rank.single.Goals as goal
 
