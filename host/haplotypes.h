@@ -1,5 +1,5 @@
 /* Pikondaur's eight services for programs in C (C11 and later) and C++ (C++17 and later).
- * Link target/staticlib/libhaplotypes.a, which `rt staticlib haplotypes` writes. It needs nothing but the C library's memcpy and memset.
+ * Link target/staticlib/libhaplotypes.a, which `host/build library` proves and builds. It needs nothing but the C library's memcpy and memset.
  *
  * Tables. A table has m fragments of 32 bytes each and n columns (SNPs), m and n at most 128. Its bytes tell m; n comes with the call. Numbers
  * in it are little-endian; columns and positions of fragments count from 0.

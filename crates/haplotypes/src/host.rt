@@ -1,4 +1,4 @@
-// The services exported to programs in C and Rust: a slice is a pointer and a length, and the outcome is one number.
+// The services as `haplotypes_c` exports them to programs in C and Rust: the outcome is one number.
 ghost use Rattle.std.specs.Prelude.{◌≡◌, ◌≤◌};
 ghost use Rattle.records.specs.Outcome.{outcome_of};
 ghost use Rattle.conflicts.specs.Services.{unpack_leaves, pack_leaves, find_leaves, check_leaves, conflict_counts_leaves, snp_removal_leaves, fragment_removal_leaves, corrections_leaves};
@@ -25,8 +25,7 @@ fn host_number(base: u64, outcome: Outcome) -> u64
 }
 
 // Unpack: m, or a refusal.
-#[unsafe(no_mangle)]
-pub extern "C" fn haplotypes_unpack(
+pub fn haplotypes_unpack(
     n: usize,
     table: &[u8],
     cells: &mut [u8],
@@ -43,8 +42,7 @@ pub extern "C" fn haplotypes_unpack(
 }
 
 // Pack: m, or a refusal.
-#[unsafe(no_mangle)]
-pub extern "C" fn haplotypes_pack(
+pub fn haplotypes_pack(
     n: usize,
     cells: &[u8],
     tags: &[u32],
@@ -59,8 +57,7 @@ pub extern "C" fn haplotypes_pack(
 }
 
 // Find: the byte of the table at which its part starts.
-#[unsafe(no_mangle)]
-pub extern "C" fn haplotypes_find(tag: u32, table: &[u8]) -> usize
+pub fn haplotypes_find(tag: u32, table: &[u8]) -> usize
     ensures { result ≡ (find_leaves tag table.now).start }
 {
     let i = position_of(tag, table);
@@ -71,8 +68,7 @@ pub extern "C" fn haplotypes_find(tag: u32, table: &[u8]) -> usize
 }
 
 // Check: 0 for yes, 1 for no, or a refusal.
-#[unsafe(no_mangle)]
-pub extern "C" fn haplotypes_check(n: usize, table: &[u8], answer: &mut [u8]) -> u64
+pub fn haplotypes_check(n: usize, table: &[u8], answer: &mut [u8]) -> u64
     ensures number { result ≡ host_code (check_leaves n table.now answer.old).outcome }
     ensures read { host_read 1000 result ≡ (check_leaves n table.now answer.old).outcome }
     ensures answer { answer.new ≡ (check_leaves n table.now answer.old).answer }
@@ -81,8 +77,7 @@ pub extern "C" fn haplotypes_check(n: usize, table: &[u8], answer: &mut [u8]) ->
 }
 
 // conflict_counts: m, or a refusal.
-#[unsafe(no_mangle)]
-pub extern "C" fn haplotypes_conflict_counts(n: usize, table: &[u8], counts: &mut [u8]) -> u64
+pub fn haplotypes_conflict_counts(n: usize, table: &[u8], counts: &mut [u8]) -> u64
     ensures number { result ≡ host_outcome (conflict_counts_leaves n table.now counts.old).outcome }
     ensures read { host_read 4294967296 result ≡ (conflict_counts_leaves n table.now counts.old).outcome }
     ensures counts { counts.new ≡ (conflict_counts_leaves n table.now counts.old).counts }
@@ -91,8 +86,7 @@ pub extern "C" fn haplotypes_conflict_counts(n: usize, table: &[u8], counts: &mu
 }
 
 // S: the number of removed columns, or a refusal.
-#[unsafe(no_mangle)]
-pub extern "C" fn haplotypes_least_snp_removal(
+pub fn haplotypes_least_snp_removal(
     n: usize,
     table: &[u8],
     work: &mut [u16],
@@ -107,8 +101,7 @@ pub extern "C" fn haplotypes_least_snp_removal(
 }
 
 // F: the number of removed fragments, or a refusal.
-#[unsafe(no_mangle)]
-pub extern "C" fn haplotypes_least_fragment_removal(
+pub fn haplotypes_least_fragment_removal(
     n: usize,
     table: &[u8],
     work: &mut [u16],
@@ -123,8 +116,7 @@ pub extern "C" fn haplotypes_least_fragment_removal(
 }
 
 // C: the total of the corrected calls, or a refusal.
-#[unsafe(no_mangle)]
-pub extern "C" fn haplotypes_least_corrections(
+pub fn haplotypes_least_corrections(
     n: usize,
     table: &[u8],
     work: &mut [u16],
