@@ -1,7 +1,7 @@
 #!/usr/bin/env python3
 """Brings the repository's own definitions and lemmas to today's spelling, after port.py has turned the rest. Run once, at the top of the repository.
 
-Definitions, lemmas, fields and bound names in camel case become snake case; a definition that would then have the name of a function of src/ takes another.
+Definitions, lemmas, fields and bound names in camel case become snake case; a definition that would then have the name of a function of src/ takes another (those that port.py has spelled keep that).
 Fields of records with hyphens take underscores. The test of two numbers, == of crate below, becomes =?, since == is the library's; if then else is the library's own.
 Functions of src/, exported names, strings, inputs and outputs keep their names: in a .rt file only clauses and ghost items change, in any file no comment but its cited names.
 """

@@ -135,7 +135,7 @@ pub(crate) fn least(
     work: &mut [u16],
     keep: &mut [u8],
 ) -> usize
-    requires { Prepared m n masks.now reaches.now × Gapless (words_grid m n masks.now) × (8385 ≤ length work.old) × (length keep.old ≡ m) }
+    requires { Prepared m n masks.now reaches.now × Gapless (words_grid m n masks.now) × (16641 ≤ length work.old) × (length keep.old ≡ m) }
     ensures { (keep.new ≡ fragment_keep_marks_of (words_grid m n masks.now)) × (result ≡ zeros (fragment_keep_marks_of (words_grid m n masks.now)))
         × (work.new ≡ replicate (length work.old) 0) }
 {
