@@ -42,13 +42,7 @@ pub fn haplotypes_unpack(
 }
 
 // Pack: m, or a refusal.
-pub fn haplotypes_pack(
-    n: usize,
-    cells: &[u8],
-    tags: &[u32],
-    grades: &[u8],
-    table: &mut [u8],
-) -> u64
+pub fn haplotypes_pack(n: usize, cells: &[u8], tags: &[u32], grades: &[u8], table: &mut [u8]) -> u64
     ensures number { result ≡ host_outcome (pack_leaves n cells.now tags.now grades.now table.old).outcome }
     ensures read { host_read 4294967296 result ≡ (pack_leaves n cells.now tags.now grades.now table.old).outcome }
     ensures table { table.new ≡ (pack_leaves n cells.now tags.now grades.now table.old).table }
