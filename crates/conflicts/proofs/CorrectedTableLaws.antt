@@ -24,7 +24,7 @@ use Rattle.conflicts.specs.Grid.{Grid, grid_of, with_cells}
 use Rattle.conflicts.specs.Corrections.{least_cost_sides_of, corrected_cell, corrected}
 use Rattle.conflicts.specs.Answer.{corrected_grid, rewritten_code, rewritten, records_with, corrected_table}
 use Rattle.conflicts.specs.Minimality.{OthersKept}
-use Rattle.conflicts.proofs.CorrectionLaws.{letter-call}
+use Rattle.conflicts.proofs.LetterLaws.{letter-call}
 
 -- ---- rows that have one length below m
 

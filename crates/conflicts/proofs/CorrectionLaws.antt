@@ -19,6 +19,7 @@ use Rattle.records.proofs.ExtentLaws.{call-range, call-of}
 use Rattle.conflicts.specs.Grid.{Grid, with_cells, calls_conflict, conflict_on}
 use Rattle.conflicts.specs.Corrections.{correction_cost, letter_weight, side_price, majority_letter, column_cost, cost, side_letter, corrected_cell, corrected, differs, cell_total, changed_total, turned}
 use Rattle.conflicts.proofs.GridLaws.{conflict-self}
+use Rattle.conflicts.proofs.LetterLaws.{letter-call}
 
 -- ---- codes
 
@@ -166,18 +167,12 @@ module _ (g : Grid) (sides : List ℕ) where
             apart k.0 i k.1 hi (=?-eq _ _ (left-of _ _ k.2)) on (or_left _ _ (both _ _ (right_of _ _ k.2) (rw b (=?-refl 2))))) in
             omega arith
 
-  pub letter-call : (s c : ℕ) → T (is_call_code (side_letter g sides s c))
-  unfolding side_letter majority_letter is_call_code
-  letter-call s c =
-      if-ind (λ x. T (x =? 1 or x =? 2)) (letter_weight g (nth sides) s c 1 <? letter_weight g (nth sides) s c 2)
-      (λ t. or_right (2 =? 1) _ (=?-refl 2)) (λ t. or_left _ (1 =? 2) (=?-refl 1))
-
   -- C's own changes on a side: the calls of the letter that it does not turn to
   changed-weight : (s c : ℕ) → set_total g sides (differs g (corrected g sides)) s c ≡ letter_weight g (nth sides) s c (3 - side_letter g sides s c)
   unfolding set_total letter_weight differs corrected with_cells corrected_cell
   changed-weight s c =
       sum-ext g.m _ _ λ i hi. ap (λ (b : Bool). if b then correction_cost g i else 0) (and-ext (get_or sides i 0 =? s) _ _ λ on.
-      changes (g.cell i c) (side_letter g sides (get_or sides i 0) c) (letter-call (get_or sides i 0) c)
+      changes (g.cell i c) (side_letter g sides (get_or sides i 0) c) (letter-call g sides (get_or sides i 0) c)
       ∙ ap (λ (t : ℕ). g.cell i c =? 3 - side_letter g sides t c) (=?-eq (get_or sides i 0) s on))
 
   pub price-exact : (s c : ℕ) → set_total g sides (differs g (corrected g sides)) s c ≡ side_price (letter_weight g (nth sides) s c 1) (letter_weight g (nth sides) s c 2)

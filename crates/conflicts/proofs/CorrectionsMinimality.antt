@@ -7,7 +7,7 @@ use mathlib.Core.List.{List}
 use Prim.Native.Nat.{ℕ, ◌%◌, ◌≤◌, ◌<◌}
 use native.Mathlib.Nat.{le_trans, le_of_eq}
 use lib.Dec.{T, lit≤}
-use lib.ListN.{length, get_or, replicate, get_or-replicate}
+use lib.ListN.{length, get_or, replicate}
 use Rattle.below.specs.Below.{isnt, tab}
 use Rattle.fields.specs.Record.{grade_of, is_call_code}
 use Rattle.fields.specs.Table.{record_bytes_at}
@@ -18,16 +18,16 @@ use Rattle.conflicts.specs.Choice.{zeros, keep_all}
 use Rattle.conflicts.specs.Grid.{Grid, grid_of, with_cells}
 use Rattle.conflicts.specs.Removal.{snp_keep_marks_of, fragment_keep_marks_of}
 use Rattle.conflicts.specs.Corrections.{cost, least_cost_sides_of, side_letter, corrected_cell, corrected, differs, cell_total, changed_total, turned}
-use Rattle.conflicts.specs.Answer.{corrected_grid, correction_answer, corrected_table, keep_mark_in, side_in, answer_size}
+use Rattle.conflicts.specs.Answer.{corrected_grid, correction_answer, corrected_table, side_in}
 use Rattle.conflicts.specs.Minimality.{CallsWork, Fewest, FirstOf, SidesCost, Corrected}
 use Rattle.conflicts.specs.Phased.{Phased}
 use Rattle.conflicts.specs.Services.{lent_stages, removal_rules, correction_stages, correction_rules, written, work_after, snp_removal_leaves, fragment_removal_leaves, corrections_leaves}
 use Rattle.conflicts.proofs.SideLaws.{all-length, lawful-of, alike_same}
-use Rattle.conflicts.proofs.AnswerLaws.{answer-length, keep_mark-at, side-at}
 use Rattle.conflicts.proofs.PhaseLaws.{phased}
 use Rattle.conflicts.proofs.Minimality.{snp_removal_holds, fragment_removal_holds}
+use Rattle.conflicts.proofs.CorrectionAnswerLaws.{sides-length, correction-length, correction-mark, correction-side}
 use Rattle.conflicts.proofs.CorrectionLaws.{cost-exact, corrected-apart, corrected-turned}
-use Rattle.conflicts.proofs.LeastCorrections.{least-length, least_on, least-cost, least_first, corrections-fewest, touched_column, touched_fragment, columns-touched, columns-count, fragments-touched, fragments-count}
+use Rattle.conflicts.proofs.LeastCorrections.{least_on, least-cost, least_first, corrections-fewest, touched_column, touched_fragment, columns-touched, columns-count, fragments-touched, fragments-count}
 use Rattle.conflicts.proofs.CorrectedTableLaws.{corrected-hole, grid-corrected, others-kept}
 use Rattle.records.specs.Rules.{size_rules}
 use Rattle.records.proofs.RuleLaws.{accepted-stage, accepted-count}
@@ -37,33 +37,17 @@ use Rattle.fields.proofs.GradeLaws.{weight-range}
 -- ---- C's answer
 
 module _ (g : Grid) where
-  sides-length : length (least_cost_sides_of 2 g) ≡ g.m
-  sides-length = least-length 2 g (lit≤ tt)
-
-  pub correction-length : length (correction_answer g) ≡ answer_size g.m g.n
-  unfolding correction_answer corrected_grid corrected with_cells
-  correction-length = answer-length (corrected_grid g) (keep_all g.n) (least_cost_sides_of 2 g) (all-length g.n) sides-length
-
-  pub correction-mark : (c : ℕ) → c < g.n → keep_mark_in (correction_answer g) c ≡ 1
-  unfolding correction_answer corrected_grid corrected with_cells keep_all
-  correction-mark c h =
-      keep_mark-at (corrected_grid g) (keep_all g.n) (least_cost_sides_of 2 g) (all-length g.n) sides-length c h ∙ get_or-replicate {A = ℕ} g.n c 1 0 h
-
-  pub correction-side : (i : ℕ) → i < g.m → side_in g.n (correction_answer g) i ≡ get_or (least_cost_sides_of 2 g) i 0
-  unfolding correction_answer corrected_grid corrected with_cells
-  correction-side i h = side-at (corrected_grid g) (keep_all g.n) (least_cost_sides_of 2 g) (all-length g.n) sides-length i h
-
   -- the list of the sides in the answer
   correction-list : tab g.m (side_in g.n (correction_answer g)) ≡ least_cost_sides_of 2 g
   correction-list =
-      tab-ext g.m _ _ correction-side ∙ subst (λ (m : ℕ). tab m (λ i. get_or (least_cost_sides_of 2 g) i 0) ≡ least_cost_sides_of 2 g) sides-length (tab-again 0 (least_cost_sides_of 2 g))
+      tab-ext g.m _ _ (correction-side g) ∙ subst (λ (m : ℕ). tab m (λ i. get_or (least_cost_sides_of 2 g) i 0) ≡ least_cost_sides_of 2 g) (sides-length g) (tab-again 0 (least_cost_sides_of 2 g))
 
   -- a call becomes the letter of its side in the answer
   correction-letter : (i c : ℕ) → i < g.m → T (is_call_code (g.cell i c))
       → (corrected_grid g).cell i c ≡ side_letter g (tab g.m (side_in g.n (correction_answer g))) (side_in g.n (correction_answer g) i) c
   unfolding corrected_grid corrected with_cells corrected_cell
   correction-letter i c h t =
-      if-true (is_call_code (g.cell i c)) _ _ t ∙ sym (ap₂ (λ (l : List ℕ) (s : ℕ). side_letter g l s c) correction-list (correction-side i h))
+      if-true (is_call_code (g.cell i c)) _ _ t ∙ sym (ap₂ (λ (l : List ℕ) (s : ℕ). side_letter g l s c) correction-list (correction-side g i h))
 
   -- the sides in the answer are the first of least cost
   pub correction-sides : FirstOf (SidesCost 2 g (cost 2 g (least_cost_sides_of 2 g))) g.m (λ s. s) (side_in g.n (correction_answer g))
@@ -71,17 +55,17 @@ module _ (g : Grid) where
       let w = least_first 2 g (lit≤ tt) in
       record {
         fits = record {
-          on = λ i h. rw (correction-side i h) (w.fits.on i h);
+          on = λ i h. rw (correction-side g i h) (w.fits.on i h);
           costs = ap (cost 2 g) correction-list;
         };
-        first = λ other f. alike_same (λ i h. sym (correction-side i h)) (λ i h. refl) (w.first other f);
+        first = λ other f. alike_same (λ i h. sym (correction-side g i h)) (λ i h. refl) (w.first other f);
       }
 
   -- the haplotypes and blocks are those of the corrected matrix
   pub correction-phased : Phased (corrected_grid g) (correction_answer g)
   unfolding correction_answer corrected_grid corrected with_cells
   correction-phased =
-      phased (corrected_grid g) (keep_all g.n) (least_cost_sides_of 2 g) (all-length g.n) sides-length
+      phased (corrected_grid g) (keep_all g.n) (least_cost_sides_of 2 g) (all-length g.n) (sides-length g)
       (lawful-of (corrected_grid g) (keep_all g.n) (least_cost_sides_of 2 g) λ i j c hi hj hc on e kept clash. corrected-apart g (least_cost_sides_of 2 g) i j c e clash)
 
   -- the cells that change come to what the side list costs

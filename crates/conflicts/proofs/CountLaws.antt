@@ -2,7 +2,6 @@
 -- Assumes nothing.
 use mathlib.Core.Path.{◌≡◌, sym, ap, subst, ◌∙◌}
 use mathlib.Core.Logic.{◌↔◌, inl, inr}
-use mathlib.Core.List.{List}
 use Prim.Native.Nat.{ℕ, ◌+◌, ◌*◌, ◌<◌}
 use native.Mathlib.Nat.{eq-zero-or-pos}
 use native.Mathlib.Omega.{arith}
@@ -15,15 +14,10 @@ use Rattle.below.proofs.TestLaws.{and-true}
 use Rattle.below.proofs.CountLaws.{count-any, none-counted}
 use Rattle.below.proofs.RowLaws.{length-flat, flat-at}
 use Rattle.conflicts.specs.Choice.{keep_all}
-use Rattle.conflicts.specs.Grid.{Grid, conflict_on, conflict, agree, conflict_on_kept}
+use Rattle.conflicts.specs.Grid.{Grid, conflict_on, conflict, agree}
 use Rattle.conflicts.specs.Counts.{conflict_count_of, conflict_counts_of, CountsTold}
 use Rattle.conflicts.proofs.SideLaws.{kept-all}
 use Rattle.conflicts.proofs.GridLaws.{conflict-back, conflict-self}
-
--- two fragments conflict on a kept column exactly if the number of these is over 0
-pub kept-counted : (g : Grid) (keep_cols : List ℕ) (i j : ℕ) → (0 <? conflict_count_of g keep_cols i j) ≡ conflict_on_kept g keep_cols i j
-unfolding conflict_count_of conflict_on_kept
-kept-counted g keep_cols i j = count-any g.n _
 
 module _ (g : Grid) where
   -- the number over all columns

@@ -1,5 +1,6 @@
 pub mod GridLaws
 pub mod CountLaws
+pub mod KeptCountLaws
 pub mod MarkLaws
 pub mod ChoiceLaws
 pub mod OrderLaws
@@ -15,9 +16,11 @@ pub mod Outcomes
 pub mod SameLaws
 pub mod AlikeLaws
 pub mod GapLaws
+pub mod LetterLaws
 pub mod CorrectionLaws
 pub mod LeastCorrections
 pub mod CorrectedTableLaws
+pub mod CorrectionAnswerLaws
 pub mod CorrectionsMinimality
 pub mod UnweighedLaws
 pub mod TurningLaws
