@@ -168,6 +168,8 @@ if __name__ == "__main__":
         text = below(text) if f == "crates/below/specs/Below.antt" else library_if(text, False)
         if f.endswith("/RoundTrips.antt"):
             text = re.sub(r"(\bpub |\.)cells_left(?= :| ∙)", r"\1cells_are", text)  # port.py gave this field the name of a bound name
+        if f.endswith(("/Unweighed.antt", "/UnweighedLaws.antt")):
+            text = re.sub(r"(?m)^(  (?:pub )?)(snp|fragment)_answer (?=[:=] )", r"\1answer_of_\2s ", text)  # fields beside the definitions of their names
         text = re.sub(r"\b(if-\w+) \{ℓ\} : \{A : Type ℓ\}", r"\1 : {A : Type 0}", text)
         open(f, "w").write(text)
     for f in RT:

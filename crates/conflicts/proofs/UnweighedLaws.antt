@@ -36,9 +36,9 @@ weights-unread g weight = record {
   check = refl;
   counts = refl;
   snps = refl;
-  snp_answer = refl;
+  answer_of_snps = refl;
   fragments = refl;
-  fragment_answer = refl;
+  answer_of_fragments = refl;
   covered = λ c. refl;
 }
 

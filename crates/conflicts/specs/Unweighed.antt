@@ -25,9 +25,9 @@ pub record WeightsUnread (g : Grid) (weight : ℕ → ℕ) : Type 0 where
   pub check : check_answer (reweighed g weight) ≡ check_answer g
   pub counts : conflict_counts_of (reweighed g weight) ≡ conflict_counts_of g
   pub snps : snp_keep_marks_of (reweighed g weight) ≡ snp_keep_marks_of g
-  pub snp_answer : snp_answer (reweighed g weight) ≡ snp_answer g
+  pub answer_of_snps : snp_answer (reweighed g weight) ≡ snp_answer g
   pub fragments : fragment_keep_marks_of (reweighed g weight) ≡ fragment_keep_marks_of g
-  pub fragment_answer : fragment_answer (reweighed g weight) ≡ fragment_answer g
+  pub answer_of_fragments : fragment_answer (reweighed g weight) ≡ fragment_answer g
   pub covered : (c : ℕ) → coverage (reweighed g weight) c ≡ coverage g c
 
 -- ---- C by counts
