@@ -25,7 +25,7 @@ use Rattle.components.specs.Algorithm.Components.{lowests, Links, Splits, Tied, 
 abbrev Two : ℕ → Type 0
 Two s = (s ≡ 1) ⊎ (s ≡ 2)
 
--- whether sides are side_turned over: where a pair would otherwise be on one side
+-- whether sides are turned over: where a pair would otherwise be on one side
 abbrev Turns : Bool → ℕ → ℕ → Type 0
 Turns turn x y = ((turn ≡ true) × (x ≡ y)) ⊎ ((turn ≡ false) × (x + y ≡ 3))
 
@@ -88,7 +88,7 @@ moved-tie {turn} {s} {s'} {x} {hi} {lo} a t e = go a t (turn-cases turn e (tied-
     go a (inl t) (inr u) = absurd (not-both t.0 u.0)
     go a (inr t) (inl u) = absurd (not-both u.0 t.0)
 
--- two that are side_turned over together stay apart
+-- two that are turned over together stay apart
 turned_apart : (turn : Bool) {a b a' b' : ℕ} → Two a → Two b → a' ≡ side_turned turn a → b' ≡ side_turned turn b → a + b ≡ 3 → a' + b' ≡ 3
 turned_apart turn {a} {b} {a'} {b'} h k d e f = go (turn-cases turn d h) (turn-cases turn e k)
   where

@@ -82,7 +82,7 @@ fn new_side(x: u8, hi: u8, turn: bool, side: u8) -> u8
     side
 }
 
-// Takes the component hi into lo, its sides side_turned over or not.
+// Takes the component hi into lo, its sides turned over or not.
 fn relabel(m: usize, sides: &mut [u8], labels: &mut [u8], lo: u8, hi: u8, turn: bool)
     requires { (length sides.old ≡ m) × (length labels.old ≡ m) }
     ensures { Joined m lo hi turn (nth labels.old) (nth sides.old) (nth labels.new) (nth sides.new) }

@@ -139,3 +139,7 @@ pub kept-fragments : (n : ℕ) (cells tags grades : List ℕ) (v : Verdict) → 
 unfolding refuses
 kept-fragments n cells tags grades (accepted k) e t = record { kept = decide-accepted _ _ k _ (sym e) }
 kept-fragments n cells tags grades (refused number place) e t = absurd (let z : ◌≡◌ {A = ℕ} 0 1 = cc in omega arith)
+
+-- what pack ensures, from the facts in the order of its clauses
+pub clauses-outcome-table : {A B : Type 0} → A × B → record { outcome : A; table : B }
+clauses-outcome-table w = record { outcome = w.0; table = w.1 }

@@ -118,3 +118,7 @@ module _ (n m : ℕ) (table cells tags grades : List ℕ) where
   unpack-accepts k count e d =
       let v = e ∙ d in
       (ap accepted (sym count ∙ accepted-count (table_rules n table) (fragments table) k d) ∙ sym v, (sym (left-cells n k table cells tags grades v), (sym (left-tags n k table cells tags grades v), sym (left-grades n k table cells tags grades v))))
+
+-- what unpack ensures, from the facts in the order of its clauses
+pub clauses-outcome-cells-tags-grades : {A B C D : Type 0} → A × (B × (C × D)) → record { outcome : A; cells : B; tags : C; grades : D }
+clauses-outcome-cells-tags-grades w = record { outcome = w.0; cells = w.1.0; tags = w.1.1.0; grades = w.1.1.1 }

@@ -35,3 +35,7 @@ module _ (n : ℕ) (table answer work : List ℕ) (count : ℕ) (new : List ℕ)
       → {k : ℕ} {w a : List ℕ} → k ≡ count → w ≡ replicate (length work) 0 → a ≡ new → Leaves (accepted k) w a
   unfolding removal_verdict
   removal-accepts m e i j l = let left = left_at _ (decide-accepted _ _ m _ e) in (ap accepted i ∙ left.0, (j ∙ left.1.0, l ∙ left.1.1))
+
+-- what a service ensures, from the facts in the order of its clauses
+pub clauses-outcome-work-answer-meaning : {A B C D : Type 0} → A × (B × (C × D)) → record { outcome : A; work : B; answer : C; meaning : D }
+clauses-outcome-work-answer-meaning w = record { outcome = w.0; work = w.1.0; answer = w.1.1.0; meaning = w.1.1.1 }

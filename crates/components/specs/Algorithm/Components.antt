@@ -58,12 +58,12 @@ pub record Step (m i j : ℕ) (ok : Bool) (l s l' s' : ℕ → ℕ) : Type 0 whe
   pub on : (kept : ℕ → Bool) (pair : ℕ → ℕ → Bool) → Links m kept pair → T (pair i j) → State m kept pair (i * 128 + j) l s
       → ByVerdict ok (State m kept pair (i * 128 + (j + 1)) l' s') (NoSides m kept pair)
 
--- a side, side_turned over or not
+-- a side, turned over or not
 abbrev pub side_turned : Bool → ℕ → ℕ
 side_turned true s = 3 - s
 side_turned false s = s
 
--- the component hi is taken into lo, its sides side_turned over or not
+-- the component hi is taken into lo, its sides turned over or not
 pub record Joined (m lo hi : ℕ) (turn : Bool) (l s l' s' : ℕ → ℕ) : Type 0 where
   pub moved : (a : ℕ) → a < m → l a ≡ hi → (l' a ≡ lo) × (s' a ≡ side_turned turn (s a))
   pub left : (a : ℕ) → a < m → (l a ≡ hi → ⊥) → (l' a ≡ l a) × (s' a ≡ s a)

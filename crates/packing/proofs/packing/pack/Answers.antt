@@ -3,11 +3,8 @@
 use mathlib.Core.Path.{sym, ap, ◌∙◌}
 use Rattle.records.proofs.RuleLaws.{decide-accepted}
 use Rattle.records.specs.Outcome.{outcome_of}
-use Rattle.packing.proofs.PackLaws.{pack-sizes, pack-refuses}
+use Rattle.packing.proofs.PackLaws.{pack-sizes, pack-refuses, clauses-outcome-table}
 use Rattle.packing.proofs.packing.pack.Goals as goal
-
-clauses-outcome-table : {A B : Type 0} → A × B → record { outcome : A; table : B }
-clauses-outcome-table w = record { outcome = w.0; table = w.1 }
 
 pub pack_sized-requires : goal.pack_sized-requires
 pack_sized-requires c = record { kept = decide-accepted _ _ _ _ (sym c.pack_size_fault-sizes.ensures ∙ ap outcome_of c.in-Accepted.is) }

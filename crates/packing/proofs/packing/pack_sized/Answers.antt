@@ -2,12 +2,9 @@
 -- Assumes nothing.
 use mathlib.Core.Path.{sym, ◌∙◌}
 use native.Mathlib.Omega.{arith}
-use Rattle.packing.proofs.PackLaws.{pack-length, pack-fragments, pack-refuses, refused-untouched, kept-written, kept-fragments}
+use Rattle.packing.proofs.PackLaws.{pack-length, pack-fragments, pack-refuses, refused-untouched, kept-written, kept-fragments, clauses-outcome-table}
 use Rattle.packing.proofs.SizeLaws.{pack-m}
 use Rattle.packing.proofs.packing.pack_sized.Goals as goal
-
-clauses-outcome-table : {A B : Type 0} → A × B → record { outcome : A; table : B }
-clauses-outcome-table w = record { outcome = w.0; table = w.1 }
 
 pub overflow_mul-tags : goal.overflow_mul-tags
 overflow_mul-tags c =

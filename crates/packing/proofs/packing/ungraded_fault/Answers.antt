@@ -9,9 +9,8 @@
 -- 9 is kept too
 use mathlib.Core.Path.{◌≡◌, refl, sym, ap, ◌∙◌}
 use mathlib.Core.List.{[], ◌∷◌}
-use Prim.Native.Nat.{ℕ, ◌+◌, ◌*◌, ◌-◌, ◌≤◌}
+use Prim.Native.Nat.{ℕ, ◌-◌}
 use native.Mathlib.Omega.{arith}
-use lib.ListN.{length}
 use Rattle.below.specs.Below.{◌=?◌, ◌<?◌, any_below}
 use Rattle.records.specs.Outcome.{accepted}
 use Rattle.fields.specs.Writing.{calls_span_of, without_calls, row_of}
@@ -22,10 +21,7 @@ use Rattle.below.proofs.RowLaws.{product-fits}
 use Rattle.conflicts.specs.Services.{packed_start, packed_tag, ungraded_rules}
 use Rattle.packing.proofs.FragmentLaws.{row-unknown, start-within, span-read, empty-read, order-read}
 use Rattle.packing.proofs.packing.ungraded_fault.Goals as goal
-use Rattle.packing.proofs.packing.ungraded_fault.Goals.{After-any_unknown, After-calls_end-end, After-out_of_order, After-shared_slice_known-2-1, Else-end-eq0, Else-end-start-gt96}
-
-row_in : (c : After-shared_slice_known-2-1) → c.args.i * c.args.n + c.args.n ≤ length c.args.cells.now
-row_in c = c.requires.n_bound.2
+use Rattle.packing.proofs.packing.ungraded_fault.Goals.{After-any_unknown, After-calls_end-end, After-out_of_order, Else-end-eq0, Else-end-start-gt96}
 
 pub overflow_mul-from : goal.overflow_mul-from
 overflow_mul-from c =
@@ -33,15 +29,15 @@ overflow_mul-from c =
     record { fits = product-fits pre.n_bound.0 (let h = pre.n_bound.1 in omega arith) }
 
 pub overflow_add-row : goal.overflow_add-row
-overflow_add-row c = let r = (c.requires.n_bound.2) in omega arith
+overflow_add-row c = let r = c.requires.n_bound.2 in omega arith
 
 pub slice_bounds-row-end : goal.slice_bounds-row-end
-slice_bounds-row-end c = (c.requires.n_bound.2)
+slice_bounds-row-end c = c.requires.n_bound.2
 
 unknown-is : (c : After-any_unknown)
     → let args = c.args in
     any_below args.n (λ k. 2 <? row_of args.n args.cells.now args.i k) ≡ c.any_unknown.result
-unknown-is c = sym (row-unknown _ _ _ refl ((c.requires.n_bound.2))) ∙ sym c.any_unknown.ensures
+unknown-is c = sym (row-unknown _ _ _ refl c.requires.n_bound.2) ∙ sym c.any_unknown.ensures
 
 pub returns-then-any_unknown : goal.returns-then-any_unknown
 unfolding ungraded_rules
@@ -51,13 +47,13 @@ empty-is : (c : After-calls_end-end)
     → let args = c.args in
     without_calls args.n (row_of args.n args.cells.now args.i) ≡ (c.calls_end-end.result =? 0)
 empty-is c =
-    empty-read _ _ _ refl ((c.requires.n_bound.2)) c.requires.starts.here c.calls_end-end.ensures
+    empty-read _ _ _ refl c.requires.n_bound.2 c.requires.starts.here c.calls_end-end.ensures
 
 span-is : (c : After-calls_end-end)
     → let args = c.args in
     (96 <? calls_span_of args.n (row_of args.n args.cells.now args.i)) ≡ (96 <? c.calls_end-end.result - args.start)
 span-is c =
-    ap (λ (s : ℕ). 96 <? s) (span-read _ _ _ refl ((c.requires.n_bound.2)) c.requires.starts.here c.calls_end-end.ensures)
+    ap (λ (s : ℕ). 96 <? s) (span-read _ _ _ refl c.requires.n_bound.2 c.requires.starts.here c.calls_end-end.ensures)
 
 pub returns-then-end-eq0 : goal.returns-then-end-eq0
 unfolding ungraded_rules
@@ -67,11 +63,11 @@ past-17 : (c : Else-end-eq0)
     → let args = c.args in
     decide (ungraded_rules args.n args.cells.now args.tags.now args.i) (accepted 0) ≡ decide (rule 4 args.i (96 <? calls_span_of args.n (row_of args.n args.cells.now args.i)) ∷ earlier_rules (packed_start args.n args.cells.now) (packed_tag args.tags.now) args.i) (accepted 0)
 unfolding ungraded_rules
-past-17 c = rule-kept _ _ _ ((sym (row-unknown _ _ _ refl ((c.requires.n_bound.2))) ∙ sym c.any_unknown.ensures) ∙ c.if-any_unknown.false) ∙ rule-kept _ _ _ ((empty-read _ _ _ refl ((c.requires.n_bound.2)) c.requires.starts.here c.calls_end-end.ensures) ∙ =?-false _ _ c.if-end-eq0.false)
+past-17 c = rule-kept _ _ _ ((sym (row-unknown _ _ _ refl c.requires.n_bound.2) ∙ sym c.any_unknown.ensures) ∙ c.if-any_unknown.false) ∙ rule-kept _ _ _ ((empty-read _ _ _ refl c.requires.n_bound.2 c.requires.starts.here c.calls_end-end.ensures) ∙ =?-false _ _ c.if-end-eq0.false)
 
 pub overflow_sub-end : goal.overflow_sub-end
 overflow_sub-end c =
-    start-within _ _ _ refl ((c.requires.n_bound.2)) c.requires.starts.here c.calls_end-end.ensures
+    start-within _ _ _ refl c.requires.n_bound.2 c.requires.starts.here c.calls_end-end.ensures
 
 pub returns-then-end-start-gt96 : goal.returns-then-end-start-gt96
 returns-then-end-start-gt96 c = sym (past-17 (goal.at.returns-then-end-start-gt96 c).Else-end-eq0 ∙ rule-broken _ _ _ (span-is (goal.at.returns-then-end-start-gt96 c).After-calls_end-end ∙ <?-true _ _ c.if-end-start-gt96.true))
@@ -80,7 +76,7 @@ past-4 : (c : Else-end-start-gt96)
     → let args = c.args in
     decide (ungraded_rules args.n args.cells.now args.tags.now args.i) (accepted 0) ≡ decide (earlier_rules (packed_start args.n args.cells.now) (packed_tag args.tags.now) args.i) (accepted 0)
 unfolding ungraded_rules
-past-4 c = (rule-kept _ _ _ ((sym (row-unknown _ _ _ refl ((c.requires.n_bound.2))) ∙ sym c.any_unknown.ensures) ∙ c.if-any_unknown.false) ∙ rule-kept _ _ _ ((empty-read _ _ _ refl ((c.requires.n_bound.2)) c.requires.starts.here c.calls_end-end.ensures) ∙ =?-false _ _ c.if-end-eq0.false)) ∙ rule-kept _ _ _ ((ap (λ (s : ℕ). 96 <? s) (span-read _ _ _ refl ((c.requires.n_bound.2)) c.requires.starts.here c.calls_end-end.ensures)) ∙ <?-false _ _ c.if-end-start-gt96.false)
+past-4 c = (rule-kept _ _ _ ((sym (row-unknown _ _ _ refl c.requires.n_bound.2) ∙ sym c.any_unknown.ensures) ∙ c.if-any_unknown.false) ∙ rule-kept _ _ _ ((empty-read _ _ _ refl c.requires.n_bound.2 c.requires.starts.here c.calls_end-end.ensures) ∙ =?-false _ _ c.if-end-eq0.false)) ∙ rule-kept _ _ _ ((ap (λ (s : ℕ). 96 <? s) (span-read _ _ _ refl c.requires.n_bound.2 c.requires.starts.here c.calls_end-end.ensures)) ∙ <?-false _ _ c.if-end-start-gt96.false)
 
 pub returns-then-tag_before : goal.returns-then-tag_before
 unfolding earlier_rules
@@ -91,7 +87,7 @@ past-9 : (c : After-out_of_order)
     decide (ungraded_rules args.n args.cells.now args.tags.now args.i) (accepted 0) ≡ decide (rule 13 args.i c.out_of_order.result ∷ []) (accepted 0)
 unfolding earlier_rules ungraded_rules
 past-9 c =
-    ((rule-kept _ _ _ ((sym (row-unknown _ _ _ refl ((c.requires.n_bound.2))) ∙ sym c.any_unknown.ensures) ∙ c.if-any_unknown.false) ∙ rule-kept _ _ _ ((empty-read _ _ _ refl ((c.requires.n_bound.2)) c.requires.starts.here c.calls_end-end.ensures) ∙ =?-false _ _ c.if-end-eq0.false)) ∙ rule-kept _ _ _ ((ap (λ (s : ℕ). 96 <? s) (span-read _ _ _ refl ((c.requires.n_bound.2)) c.requires.starts.here c.calls_end-end.ensures)) ∙ <?-false _ _ c.if-end-start-gt96.false))
+    ((rule-kept _ _ _ ((sym (row-unknown _ _ _ refl c.requires.n_bound.2) ∙ sym c.any_unknown.ensures) ∙ c.if-any_unknown.false) ∙ rule-kept _ _ _ ((empty-read _ _ _ refl c.requires.n_bound.2 c.requires.starts.here c.calls_end-end.ensures) ∙ =?-false _ _ c.if-end-eq0.false)) ∙ rule-kept _ _ _ ((ap (λ (s : ℕ). 96 <? s) (span-read _ _ _ refl c.requires.n_bound.2 c.requires.starts.here c.calls_end-end.ensures)) ∙ <?-false _ _ c.if-end-start-gt96.false))
     ∙ rule-kept _ _ _ (sym c.tag_before.ensures ∙ c.if-tag_before.false)
     ∙ ap (λ b. decide (rule 13 c.args.i b ∷ []) (accepted 0)) (order-read _ _ c.args.tags.now c.args.i c.requires.starts c.out_of_order.ensures)
 

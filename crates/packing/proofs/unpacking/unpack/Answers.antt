@@ -1,10 +1,7 @@
 use mathlib.Core.Path.{sym, ap, ◌∙◌}
 use Rattle.records.specs.Outcome.{outcome_of}
-use Rattle.packing.proofs.UnpackLaws.{unpack-sizes, unpack-refuses}
+use Rattle.packing.proofs.UnpackLaws.{unpack-sizes, unpack-refuses, clauses-outcome-cells-tags-grades}
 use Rattle.packing.proofs.unpacking.unpack.Goals as goal
-
-clauses-outcome-cells-tags-grades : {A B C D : Type 0} → A × (B × (C × D)) → record { outcome : A; cells : B; tags : C; grades : D }
-clauses-outcome-cells-tags-grades w = record { outcome = w.0; cells = w.1.0; tags = w.1.1.0; grades = w.1.1.1 }
 
 pub unpack_sized-requires : goal.unpack_sized-requires
 unpack_sized-requires c =

@@ -7,12 +7,9 @@ use Rattle.records.specs.Rules.{decide, table_rules}
 use Rattle.conflicts.specs.Services.{unpack_leaves}
 use Rattle.records.proofs.AcceptedLaws.{sized-count, sized-n, sized-m}
 use Rattle.below.proofs.RowLaws.{product-fits}
-use Rattle.packing.proofs.UnpackLaws.{unpack-cells, unpack-tags, unpack-grades, unpack-records, unpack-refuses, unpack-accepts}
+use Rattle.packing.proofs.UnpackLaws.{unpack-cells, unpack-tags, unpack-grades, unpack-records, unpack-refuses, unpack-accepts, clauses-outcome-cells-tags-grades}
 use Rattle.packing.proofs.unpacking.unpack_sized.Goals as goal
 use Rattle.packing.proofs.unpacking.unpack_sized.Goals.{Else-grades-m}
-
-clauses-outcome-cells-tags-grades : {A B C D : Type 0} → A × (B × (C × D)) → record { outcome : A; cells : B; tags : C; grades : D }
-clauses-outcome-cells-tags-grades w = record { outcome = w.0; cells = w.1.0; tags = w.1.1.0; grades = w.1.1.1 }
 
 pub overflow_mul-m : goal.overflow_mul-m
 overflow_mul-m c =

@@ -3,12 +3,9 @@
 use mathlib.Core.Path.{sym, ap, ◌∙◌}
 use Rattle.records.specs.Outcome.{outcome_of}
 use Rattle.stages.proofs.StageLaws.{removal-sized, removal-answer, removal-kept}
-use Rattle.removals.proofs.RemovalLaws.{removal-refuses, removal-accepts}
+use Rattle.removals.proofs.RemovalLaws.{removal-refuses, removal-accepts, clauses-outcome-work-answer-meaning}
 use Rattle.removals.proofs.TableRemovalLaws.{snp-leaves}
 use Rattle.removals.proofs.snps.least_snp_removal.Goals as goal
-
-clauses-outcome-work-answer-meaning : {A B C D : Type 0} → A × (B × (C × D)) → record { outcome : A; work : B; answer : C; meaning : D }
-clauses-outcome-work-answer-meaning w = record { outcome = w.0; work = w.1.0; answer = w.1.1.0; meaning = w.1.1.1 }
 
 pub remove_snps-count-requires : goal.remove_snps-count-requires
 remove_snps-count-requires c =
