@@ -1,6 +1,5 @@
 -- `calls::settle` meets its contract.
 -- Assumes nothing.
--- the weights that were filled are the table's
 use mathlib.Core.Path.{◌≡◌, sym, subst}
 use mathlib.Core.List.{List}
 use Prim.Native.Nat.{ℕ}
@@ -11,6 +10,7 @@ use Rattle.correcting.specs.Algorithm.Settled.{Settled}
 use Rattle.correcting.proofs.TableCorrectionLaws.{settled-sides}
 use Rattle.correcting.proofs.calls.settle.Goals as goal
 
+-- the weights that were filled are the table's
 weighed : {weights : List ℕ} (table : List ℕ) → weights ≡ table_weights table → Weights weights
 weighed table e = subst Weights (sym e) (table-weights table)
 

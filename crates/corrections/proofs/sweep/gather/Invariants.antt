@@ -1,6 +1,5 @@
 -- `sweep::gather` meets its contract. The loop's invariant: the prices of the fragments passed are gathered.
 -- Assumes nothing.
--- the prices of a letter of the first i fragments, of any matrix that has these spans and slots
 use mathlib.Core.Path.{◌≡◌}
 use mathlib.Core.List.{List}
 use Prim.Native.Nat.{ℕ, ◌-◌, ◌≤◌}
@@ -10,6 +9,7 @@ use Rattle.slots.specs.Algorithm.Spans.{Spanned}
 use Rattle.corrections.specs.Algorithm.Sweep.{Gathered}
 use Rattle.corrections.proofs.sweep.gather.Given as goal
 
+-- the prices of a letter of the first i fragments, of any matrix that has these spans and slots
 pub record Passed (m : ℕ) (cells weights starts ends slots : List ℕ) (c letter i : ℕ) (prices₀ prices : List ℕ) : Type 0 where
   pub long : length prices ≡ length prices₀
   pub on : (n : ℕ) → Spanned (weighted_grid m n cells weights) starts ends → Gathered (weighted_grid m n cells weights) slots c letter 0 prices₀

@@ -13,6 +13,7 @@ use Rattle.counting.proofs.CountingLaws.{rows-length, rows_at}
 use Rattle.counting.proofs.counts.copy_rows.Goals as goal
 use Rattle.counting.proofs.counts.copy_rows.Goals.{In-loop-i}
 
+-- the turn's row lies within the counts
 row_in : (c : In-loop-i) → c.loop-i.first + c.args.m ≤ c.args.m * c.args.m
 row_in c =
     let a = c.args in

@@ -1,6 +1,5 @@
 -- `counts::copy_rows` meets its contract. The invariant: the rows before fragment i stand in the counts, and the next one starts at i × m.
 -- Assumes nothing.
--- the turn's row lies within the counts
 use mathlib.Core.Path.{◌≡◌}
 use Prim.Native.Nat.{◌*◌, ◌-◌}
 use Rattle.below.specs.Below.{nth}

@@ -1,4 +1,3 @@
--- the tag that the turn reads is that of record i
 use mathlib.Core.Path.{◌≡◌, refl, sym, ap, ◌∙◌}
 use Rattle.fields.specs.Record.{tag_of}
 use Rattle.fields.specs.Table.{fragments, record_bytes_at, position}
@@ -9,6 +8,7 @@ use native.Mathlib.Omega.{arith}
 use Rattle.fields.proofs.table.position_of.Goals as goal
 use Rattle.fields.proofs.table.position_of.Goals.{After-tag}
 
+-- the tag that the turn reads is that of record i
 tag_read : (c : After-tag) → c.tag.result ≡ tag_of (record_bytes_at c.args.table.now c.loop-i.i)
 tag_read c = c.tag.ensures ∙ ap tag_of (part-record _ c.loop-i.i _ c.record_at.ensures (omega arith))
 

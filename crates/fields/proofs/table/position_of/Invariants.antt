@@ -1,4 +1,3 @@
--- the tag that the turn reads is that of record i
 use Prim.Native.Nat.{◌-◌, ◌≤◌}
 use mathlib.Core.Path.{◌≡◌}
 use Rattle.below.specs.Below.{◌=?◌}

@@ -12,6 +12,7 @@ use Rattle.fragment_pairs.proofs.copying.birth.Goals.{After-row_start-own, After
 pub loop-h-init : goal.loop-h-init
 loop-h-init c = (search rules, search rules, refl, refl, refl, born-none _ _)
 
+-- the places of a row are in the table
 inside : (c : After-row_start-start) (l : ℕ) → l ≤ c.loop-h.h → c.row_start-start.result + l < 8385
 inside c l lh = row_inside c.loop-h.h l c.row_start-start.ensures lh (omega arith)
 
@@ -37,6 +38,7 @@ loop-h-preserved c =
     let a = c.args in
     (search rules, search rules, search rules, search rules, search rules, born-more a.s l.h l.invariant.5 l.invariant.0 c.row_start-start.ensures copy.ensures)
 
+-- the places of the pairs of each state with itself are in the table
 inside-own : (c : After-row_start-own) → (c.row_start-other.result + (c.args.s + 1) < 8385) × (c.row_start-own.result + c.args.s < 8385)
 inside-own c =
     let s = c.args.s in

@@ -1,7 +1,5 @@
 -- `copying::birth` meets its contract. The loop's invariant: state s has the weights of the next state with the states below h.
 -- Assumes nothing.
--- the places of a row are in the table
--- the places of the pairs of each state with itself are in the table
 use mathlib.Core.Path.{◌≡◌}
 use Prim.Native.Nat.{◌+◌, ◌-◌, ◌≤◌, ◌<◌}
 use lib.ListN.{length}

@@ -1,7 +1,5 @@
 -- `rows::row` meets its contract. A call's `.type_inv` says that the fields of the Rank it hands back fit; `.1.1.1.0.1` is its higher word, `.1.1.1.1.0.1` its lower.
 -- Assumes nothing.
--- the last row is in the table
--- what is read there
 use mathlib.Core.Path.{◌≡◌, sym, ap, ◌∙◌}
 use Prim.Native.Nat.{ℕ, ◌+◌, ◌<◌}
 use native.Mathlib.Nat.{le_refl}
@@ -15,6 +13,7 @@ use Rattle.fragment_pairs.proofs.PairLaws.{sum_fits}
 use Rattle.fragment_pairs.proofs.rows.row.Goals as goal
 use Rattle.fragment_pairs.proofs.rows.row.Goals.{After-get, After-plus-far, After-row_start-last}
 
+-- the last row is in the table
 inside : (c : After-row_start-last) → c.row_start-last.result + (c.args.i + 1) < 8385
 inside c = row_inside (c.args.i + 1) (c.args.i + 1) c.row_start-last.ensures (le_refl (c.args.i + 1)) (omega arith)
 
@@ -27,6 +26,7 @@ get-requires c =
     let p = c.requires in
     record { in_counts = let z = p.0.counts_size in search rules; in_highs = let z = p.0.highs_size in search rules; in_lows = let z = p.0.lows_size in search rules }
 
+-- what is read there
 last : (c : After-get) → let a = c.args in value c.get.result ≡ pairs a.counts.now a.highs.now a.lows.now a.h (a.i + 1)
 last c =
     let a = c.args in

@@ -16,6 +16,7 @@ use Rattle.fragment_pairs.proofs.PairLaws.{RowReads, row_fits, fits-here, row_mo
 use Rattle.fragment_pairs.proofs.rows.row_apart.Goals as goal
 use Rattle.fragment_pairs.proofs.rows.row_apart.Goals.{After-row_start-start}
 
+-- the place of a pair is in the table
 inside : (c : After-row_start-start) (l : ℕ) → l ≤ c.args.h → c.row_start-start.result + l < 8385
 inside c l lh = row_inside c.args.h l c.row_start-start.ensures lh (let i = c.requires.4 in omega arith)
 

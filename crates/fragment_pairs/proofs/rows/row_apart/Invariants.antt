@@ -1,6 +1,5 @@
 -- `rows::row_apart` meets its contract. The loop's invariant: the states below l have the fragment before them, and the others not yet.
 -- Assumes nothing.
--- the place of a pair is in the table
 use mathlib.Core.Path.{◌≡◌}
 use Prim.Native.Nat.{◌+◌, ◌-◌, ◌≤◌}
 use lib.ListN.{length}

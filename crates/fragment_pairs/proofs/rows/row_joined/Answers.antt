@@ -16,10 +16,12 @@ use Rattle.fragment_pairs.proofs.PairLaws.{RowReads, row_fits, row_more, furthes
 use Rattle.fragment_pairs.proofs.rows.row_joined.Goals as goal
 use Rattle.fragment_pairs.proofs.rows.row_joined.Goals.{After-furthest_of-one, After-row_start-next}
 
+-- the state that h moves to
 moved : (c : After-furthest_of-one) → (c.args.h ≤ c.furthest_of-one.result) × (c.furthest_of-one.result ≤ c.args.i + 1)
 moved c =
     let a = c.args in subst (λ (x : ℕ). (a.h ≤ x) × (x ≤ a.i + 1)) (sym c.furthest_of-one.ensures) (furthest-range (nth a.reaches.now) a.h a.i c.requires.4)
 
+-- the places of a pair, and of what it moves to, are in the table
 inside : (c : After-row_start-next) (l : ℕ) → l ≤ c.args.h → (c.row_start-start.result + l < 8385) × (c.row_start-next.result + l < 8385)
 inside c l lh =
     let one = (let a = c.args in subst (λ (x : ℕ). (a.h ≤ x) × (x ≤ a.i + 1)) (sym c.furthest_of-one.ensures) (furthest-range (nth a.reaches.now) a.h a.i c.requires.4)) in

@@ -1,7 +1,5 @@
 -- `rows::row_joined` meets its contract. The loop's invariant: the states below l have the fragment before them, and the others not yet.
 -- Assumes nothing.
--- the state that h moves to
--- the places of a pair, and of what it moves to, are in the table
 use mathlib.Core.Path.{◌≡◌}
 use Prim.Native.Nat.{◌+◌, ◌-◌, ◌≤◌}
 use lib.ListN.{length}

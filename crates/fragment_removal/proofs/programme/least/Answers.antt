@@ -1,6 +1,5 @@
 -- `programme::least` meets its contract. A call's `.type_inv` says that the fields of the Rank it hands back fit; `.1.1.1.0.1` is its higher word, `.1.1.1.1.0.1` its lower.
 -- Assumes nothing.
--- what the weight of the first states says
 use mathlib.Core.Path.{◌≡◌, ◌∙◌}
 use Prim.Native.Nat.{◌+◌, zero-le}
 use native.Mathlib.Omega.{arith}
@@ -37,6 +36,7 @@ decode-requires c =
 pub shape_of-work : goal.shape_of-work
 shape_of-work c = search rules
 
+-- what the weight of the first states says
 marks : (c : After-get-r) →
     let a = c.args in
     let g = words_grid a.m a.n a.masks.now in

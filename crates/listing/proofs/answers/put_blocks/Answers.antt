@@ -1,4 +1,3 @@
--- the word of block i
 use Rattle.listing.proofs.AppendLaws.{◌⨾◌, joined-one, joined-more, as-text, continued-none, continued-more, continued-all}
 use Rattle.listing.specs.Listing.{block_word, joined}
 use Rattle.below.specs.Below.{tab}

@@ -1,4 +1,3 @@
--- the word of block i
 use Rattle.listing.proofs.AppendLaws.{Continued}
 use Rattle.listing.specs.Listing.{block_word, joined}
 use Rattle.below.specs.Below.{tab}
@@ -7,6 +6,7 @@ use mathlib.Core.List.{List}
 use Prim.Native.Nat.{ℕ, ◌+◌, ◌*◌, ◌-◌, ◌≤◌, ◌<◌}
 use Rattle.listing.proofs.answers.put_blocks.Given as goal
 
+-- the word of block i
 abbrev pub words : List ℕ → ℕ → ℕ → List ℕ
 words bytes from i = block_word (get_or bytes (from + i) 0)
 

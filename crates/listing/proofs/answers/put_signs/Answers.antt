@@ -1,4 +1,3 @@
--- the sign of code i
 use Rattle.listing.proofs.AppendLaws.{appended-none, ◌⨾◌, tab-more, as-text}
 use Rattle.listing.specs.Listing.{sign_of}
 use Rattle.below.proofs.BelowLaws.{length-tab}

@@ -1,4 +1,3 @@
--- the sign of code i
 use Rattle.listing.specs.Listing.{sign_of}
 use Rattle.listing.specs.Algorithm.Appended.{Appended}
 use Rattle.below.specs.Below.{tab}
@@ -7,6 +6,7 @@ use mathlib.Core.List.{List}
 use Prim.Native.Nat.{ℕ, ◌+◌, ◌-◌, ◌≤◌}
 use Rattle.listing.proofs.answers.put_signs.Given as goal
 
+-- the sign of code i
 abbrev pub codes : List ℕ → List ℕ → ℕ → ℕ → ℕ
 codes signs bytes from i = sign_of signs (get_or bytes (from + i) 0)
 

@@ -1,4 +1,3 @@
--- the second line, by yes or no
 use Rattle.std.specs.Prelude.{if◌then◌else◌}
 use Rattle.below.specs.Text.{ascii}
 use Rattle.listing.proofs.AppendLaws.{as-text}
@@ -9,6 +8,7 @@ use Prim.Native.Nat.{ℕ}
 use native.Mathlib.Omega.{arith}
 use Rattle.listing.proofs.lines.put_error_free.Goals as goal
 
+-- the second line, by yes or no
 abbrev second : Bool → List ℕ
 second b = if b then ascii "error-free yes\n" else ascii "error-free no\n"
 

@@ -1,4 +1,3 @@
--- the answer's length is kept
 use Rattle.listing.proofs.ListingLaws.{length-blank, blank_part, part-back, part-within}
 use Rattle.listing.proofs.AppendLaws.{as-text}
 use Rattle.listing.specs.Listing.{service_line}
@@ -12,6 +11,7 @@ use borrow.Author.Rules.{rules}
 use Rattle.listing.proofs.services.put_least.Goals as goal
 use Rattle.listing.proofs.services.put_least.Goals.{After-least-outcome}
 
+-- the answer's length is kept
 answered : (c : After-least-outcome) → length c.least-outcome.new.answer ≡ 3 * c.args.n + 2 * c.args.m
 answered c =
     let a = c.args in

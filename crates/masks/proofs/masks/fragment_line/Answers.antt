@@ -1,6 +1,5 @@
 -- `masks::fragment_line` meets its contract.
 -- Assumes nothing.
--- the part is record i
 use mathlib.Core.Path.{◌≡◌, ap, ◌∙◌}
 use Rattle.fields.specs.Record.{start_of}
 use Rattle.fields.specs.Table.{record_bytes_at}
@@ -10,6 +9,7 @@ use Rattle.masks.proofs.RecordLaws.{record-line}
 use Rattle.masks.proofs.masks.fragment_line.Goals as goal
 use Rattle.masks.proofs.masks.fragment_line.Goals.{After-record_at-part}
 
+-- the part is record i
 part-read : (c : After-record_at-part) → c.record_at-part.result.now ≡ record_bytes_at c.args.table.now c.args.i
 part-read c = part-record _ c.args.i _ c.record_at-part.ensures c.requires
 

@@ -13,6 +13,7 @@ use Rattle.packing.proofs.SizeLaws.{pack-n, pack-m, pack-row}
 use Rattle.packing.proofs.packing.fill_table.Goals as goal
 use Rattle.packing.proofs.packing.fill_table.Goals.{After-byte}
 
+-- the turn's row lies within the cells
 row_in : (c : After-byte) → c.loop-i.first + c.args.n ≤ length c.args.cells.now
 row_in c =
     let e = c.loop-i.invariant.1 in

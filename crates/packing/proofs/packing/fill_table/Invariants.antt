@@ -1,6 +1,5 @@
 -- `packing::fill_table` meets its contract. The loop's invariant: the records of the fragments before i stand in the table, and the next row starts at cell i × n.
 -- Assumes nothing.
--- the turn's row lies within the cells
 use mathlib.Core.Path.{◌≡◌}
 use Prim.Native.Nat.{◌*◌, ◌-◌}
 use lib.ListN.{length}

@@ -1,12 +1,5 @@
 -- `packing::ungraded_fault` meets its contract.
 -- Assumes nothing.
--- the fragment's row lies within the cells
--- 6, as it is read
--- 17, from the end that is read
--- 4, from the span that is read
--- 6 and 17 are kept
--- 4 is kept too
--- 9 is kept too
 use mathlib.Core.Path.{◌≡◌, refl, sym, ap, ◌∙◌}
 use mathlib.Core.List.{[], ◌∷◌}
 use Prim.Native.Nat.{ℕ, ◌-◌}
@@ -34,6 +27,7 @@ overflow_add-row c = let r = c.requires.n_bound.2 in omega arith
 pub slice_bounds-row-end : goal.slice_bounds-row-end
 slice_bounds-row-end c = c.requires.n_bound.2
 
+-- 6, as it is read
 unknown-is : (c : After-any_unknown)
     → let args = c.args in
     any_below args.n (λ k. 2 <? row_of args.n args.cells.now args.i k) ≡ c.any_unknown.result
@@ -43,12 +37,14 @@ pub returns-then-any_unknown : goal.returns-then-any_unknown
 unfolding ungraded_rules
 returns-then-any_unknown c = sym (rule-broken _ _ _ (unknown-is (goal.at.returns-then-any_unknown c).After-any_unknown ∙ c.if-any_unknown.true))
 
+-- 17, from the end that is read
 empty-is : (c : After-calls_end-end)
     → let args = c.args in
     without_calls args.n (row_of args.n args.cells.now args.i) ≡ (c.calls_end-end.result =? 0)
 empty-is c =
     empty-read _ _ _ refl c.requires.n_bound.2 c.requires.starts.here c.calls_end-end.ensures
 
+-- 4, from the span that is read
 span-is : (c : After-calls_end-end)
     → let args = c.args in
     (96 <? calls_span_of args.n (row_of args.n args.cells.now args.i)) ≡ (96 <? c.calls_end-end.result - args.start)
@@ -59,11 +55,12 @@ pub returns-then-end-eq0 : goal.returns-then-end-eq0
 unfolding ungraded_rules
 returns-then-end-eq0 c = sym (rule-kept _ _ _ (unknown-is (goal.at.returns-then-end-eq0 c).After-any_unknown ∙ c.if-any_unknown.false) ∙ rule-broken _ _ _ (empty-is (goal.at.returns-then-end-eq0 c).After-calls_end-end ∙ =?-true _ _ c.if-end-eq0.true))
 
+-- 6 and 17 are kept
 past-17 : (c : Else-end-eq0)
     → let args = c.args in
     decide (ungraded_rules args.n args.cells.now args.tags.now args.i) (accepted 0) ≡ decide (rule 4 args.i (96 <? calls_span_of args.n (row_of args.n args.cells.now args.i)) ∷ earlier_rules (packed_start args.n args.cells.now) (packed_tag args.tags.now) args.i) (accepted 0)
 unfolding ungraded_rules
-past-17 c = rule-kept _ _ _ ((sym (row-unknown _ _ _ refl c.requires.n_bound.2) ∙ sym c.any_unknown.ensures) ∙ c.if-any_unknown.false) ∙ rule-kept _ _ _ ((empty-read _ _ _ refl c.requires.n_bound.2 c.requires.starts.here c.calls_end-end.ensures) ∙ =?-false _ _ c.if-end-eq0.false)
+past-17 c = rule-kept _ _ _ (sym (row-unknown _ _ _ refl c.requires.n_bound.2) ∙ sym c.any_unknown.ensures ∙ c.if-any_unknown.false) ∙ rule-kept _ _ _ (empty-read _ _ _ refl c.requires.n_bound.2 c.requires.starts.here c.calls_end-end.ensures ∙ =?-false _ _ c.if-end-eq0.false)
 
 pub overflow_sub-end : goal.overflow_sub-end
 overflow_sub-end c =
@@ -72,27 +69,27 @@ overflow_sub-end c =
 pub returns-then-end-start-gt96 : goal.returns-then-end-start-gt96
 returns-then-end-start-gt96 c = sym (past-17 (goal.at.returns-then-end-start-gt96 c).Else-end-eq0 ∙ rule-broken _ _ _ (span-is (goal.at.returns-then-end-start-gt96 c).After-calls_end-end ∙ <?-true _ _ c.if-end-start-gt96.true))
 
+-- 4 is kept too
 past-4 : (c : Else-end-start-gt96)
     → let args = c.args in
-    decide (ungraded_rules args.n args.cells.now args.tags.now args.i) (accepted 0) ≡ decide (earlier_rules (packed_start args.n args.cells.now) (packed_tag args.tags.now) args.i) (accepted 0)
-unfolding ungraded_rules
-past-4 c = (rule-kept _ _ _ ((sym (row-unknown _ _ _ refl c.requires.n_bound.2) ∙ sym c.any_unknown.ensures) ∙ c.if-any_unknown.false) ∙ rule-kept _ _ _ ((empty-read _ _ _ refl c.requires.n_bound.2 c.requires.starts.here c.calls_end-end.ensures) ∙ =?-false _ _ c.if-end-eq0.false)) ∙ rule-kept _ _ _ ((ap (λ (s : ℕ). 96 <? s) (span-read _ _ _ refl c.requires.n_bound.2 c.requires.starts.here c.calls_end-end.ensures)) ∙ <?-false _ _ c.if-end-start-gt96.false)
+    decide (rule 4 args.i (96 <? calls_span_of args.n (row_of args.n args.cells.now args.i)) ∷ earlier_rules (packed_start args.n args.cells.now) (packed_tag args.tags.now) args.i) (accepted 0) ≡ decide (earlier_rules (packed_start args.n args.cells.now) (packed_tag args.tags.now) args.i) (accepted 0)
+past-4 c = rule-kept _ _ _ (ap (λ (s : ℕ). 96 <? s) (span-read _ _ _ refl c.requires.n_bound.2 c.requires.starts.here c.calls_end-end.ensures) ∙ <?-false _ _ c.if-end-start-gt96.false)
 
 pub returns-then-tag_before : goal.returns-then-tag_before
 unfolding earlier_rules
-returns-then-tag_before c = sym (past-4 (goal.at.returns-then-tag_before c).Else-end-start-gt96 ∙ rule-broken _ _ _ (sym c.tag_before.ensures ∙ c.if-tag_before.true))
+returns-then-tag_before c = sym (past-17 (goal.at.returns-then-tag_before c).Else-end-eq0 ∙ past-4 (goal.at.returns-then-tag_before c).Else-end-start-gt96 ∙ rule-broken _ _ _ (sym c.tag_before.ensures ∙ c.if-tag_before.true))
 
+-- 9 is kept too
 past-9 : (c : After-out_of_order)
     → let args = c.args in
-    decide (ungraded_rules args.n args.cells.now args.tags.now args.i) (accepted 0) ≡ decide (rule 13 args.i c.out_of_order.result ∷ []) (accepted 0)
-unfolding earlier_rules ungraded_rules
+    decide (earlier_rules (packed_start args.n args.cells.now) (packed_tag args.tags.now) args.i) (accepted 0) ≡ decide (rule 13 args.i c.out_of_order.result ∷ []) (accepted 0)
+unfolding earlier_rules
 past-9 c =
-    ((rule-kept _ _ _ ((sym (row-unknown _ _ _ refl c.requires.n_bound.2) ∙ sym c.any_unknown.ensures) ∙ c.if-any_unknown.false) ∙ rule-kept _ _ _ ((empty-read _ _ _ refl c.requires.n_bound.2 c.requires.starts.here c.calls_end-end.ensures) ∙ =?-false _ _ c.if-end-eq0.false)) ∙ rule-kept _ _ _ ((ap (λ (s : ℕ). 96 <? s) (span-read _ _ _ refl c.requires.n_bound.2 c.requires.starts.here c.calls_end-end.ensures)) ∙ <?-false _ _ c.if-end-start-gt96.false))
-    ∙ rule-kept _ _ _ (sym c.tag_before.ensures ∙ c.if-tag_before.false)
+    rule-kept _ _ _ (sym c.tag_before.ensures ∙ c.if-tag_before.false)
     ∙ ap (λ b. decide (rule 13 c.args.i b ∷ []) (accepted 0)) (order-read _ _ c.args.tags.now c.args.i c.requires.starts c.out_of_order.ensures)
 
 pub returns-then-out_of_order : goal.returns-then-out_of_order
-returns-then-out_of_order c = sym (past-9 (goal.at.returns-then-out_of_order c).After-out_of_order ∙ rule-broken _ _ _ c.if-out_of_order.true)
+returns-then-out_of_order c = sym (past-17 (goal.at.returns-then-out_of_order c).Else-end-eq0 ∙ past-4 (goal.at.returns-then-out_of_order c).Else-end-start-gt96 ∙ past-9 (goal.at.returns-then-out_of_order c).After-out_of_order ∙ rule-broken _ _ _ c.if-out_of_order.true)
 
 pub returns : goal.returns
-returns c = sym (past-9 (goal.at.returns c).After-out_of_order ∙ rule-kept _ _ _ c.if-out_of_order.false ∙ decide-none _)
+returns c = sym (past-17 (goal.at.returns c).Else-end-eq0 ∙ past-4 (goal.at.returns c).Else-end-start-gt96 ∙ past-9 (goal.at.returns c).After-out_of_order ∙ rule-kept _ _ _ c.if-out_of_order.false ∙ decide-none _)

@@ -15,9 +15,11 @@ use Rattle.packing.proofs.UnpackLaws.{unpacked-row, unpacked-length}
 use Rattle.packing.proofs.unpacking.fill_cells.Goals as goal
 use Rattle.packing.proofs.unpacking.fill_cells.Goals.{After-record_at}
 
+-- the turn's fragment is one of the m
 fragment-in : (c : After-record_at) → c.loop-i.i < fragments c.args.table.now
 fragment-in c = let e = c.loop-i.invariant.0 in omega arith
 
+-- its row lies within the cells
 row_in : (c : After-record_at)
     → c.loop-i.first + c.args.n ≤ fragments c.args.table.now * c.args.n
 row_in c =

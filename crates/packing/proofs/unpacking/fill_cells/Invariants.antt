@@ -1,7 +1,5 @@
 -- `unpacking::fill_cells` meets its contract. The invariant: the rows before fragment i stand in the cells, and the next one starts at cell i × n.
 -- Assumes nothing.
--- the turn's fragment is one of the m
--- its row lies within the cells
 use mathlib.Core.Path.{◌≡◌}
 use Prim.Native.Nat.{◌*◌, ◌-◌}
 use lib.ListN.{get_or}

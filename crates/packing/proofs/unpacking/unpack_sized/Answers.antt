@@ -1,4 +1,3 @@
--- the records decide once the lengths are kept
 use Prim.Native.Nat.{ℕ, ◌*◌}
 use mathlib.Core.Path.{◌≡◌, sym, ap, ◌∙◌}
 use Rattle.fields.specs.Table.{fragments}
@@ -42,6 +41,7 @@ fill_grades-requires c =
     let if3 = c.if-grades-m in
     if3.false ∙ sym (sized-count c.requires)
 
+-- the records decide once the lengths are kept
 rest-decides : (c : Else-grades-m)
     → let a = c.args in
     (unpack_leaves a.n a.table.now a.cells.now a.tags.now a.grades.now).outcome ≡ decide (table_rules a.n a.table.now) (accepted (fragments a.table.now))

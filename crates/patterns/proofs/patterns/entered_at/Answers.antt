@@ -1,6 +1,5 @@
 -- `patterns::entered_at` meets its contract.
 -- Assumes nothing.
--- the mask with the digit set is one of the table's
 use mathlib.Core.Path.{sym, ap, ap₂, subst, ◌∙◌}
 use Prim.Native.Nat.{ℕ, ◌+◌, ◌*◌, ◌-◌, ◌^◌, ◌%◌, ◌<◌, min, zero-le}
 use native.Mathlib.Omega.{arith}
@@ -12,6 +11,7 @@ use Rattle.patterns.proofs.RoomLaws.{inside_of, shl, in-range, has-digit, alone-
 use Rattle.patterns.proofs.patterns.entered_at.Goals as goal
 use Rattle.patterns.proofs.patterns.entered_at.Goals.{Then-mask-b-eq0}
 
+-- the mask with the digit set is one of the table's
 other_at : (c : Then-mask-b-eq0) → c.args.mask + 1 * 2 ^ c.args.b % 2 ^ 64 < 256
 other_at c =
     rw (shl c.args.b c.requires.2) (in-range c.args.b c.args.mask c.requires.2 c.requires.3 c.if-mask-b-eq0.true)

@@ -1,4 +1,3 @@
--- record h is whole, and its tag is what the turn reads
 use Prim.Native.Nat.{ℕ, ◌+◌, ◌*◌, ◌≤◌}
 use native.Mathlib.Nat.{add-sub_cancel_left}
 use mathlib.Core.Path.{◌≡◌, sym, ap, ◌∙◌}
@@ -11,6 +10,7 @@ use native.Mathlib.Omega.{arith}
 use Rattle.records.proofs.rules.any_tag.Goals as goal
 use Rattle.records.proofs.rules.any_tag.Goals.{After-tag, In-loop-h}
 
+-- record h is whole, and its tag is what the turn reads
 whole : (c : In-loop-h) → 32 * c.loop-h.h + 32 ≤ length c.args.table.now
 unfolding fragments
 whole c = let h = c.requires in omega arith

@@ -1,4 +1,3 @@
--- record h is whole, and its tag is what the turn reads
 use Prim.Native.Nat.{◌-◌, ◌≤◌}
 use Rattle.below.specs.Below.{◌=?◌}
 use Rattle.fields.specs.Record.{tag_of}

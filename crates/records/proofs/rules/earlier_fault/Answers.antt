@@ -1,4 +1,3 @@
--- the tag is record i's
 use mathlib.Core.Path.{◌≡◌, sym, ap, ◌∙◌}
 use Prim.Native.Nat.{ℕ}
 use Rattle.below.specs.Below.{any_below, ◌=?◌}
@@ -9,6 +8,7 @@ use Rattle.records.proofs.RuleLaws.{rule-broken, rule-kept, decide-none}
 use Rattle.records.proofs.rules.earlier_fault.Goals as goal
 use Rattle.records.proofs.rules.earlier_fault.Goals.{After-any_tag}
 
+-- the tag is record i's
 twice-is : (c : After-any_tag) → let args = c.args in c.any_tag.result ≡ tag_twice (tag_at args.table.now) args.i
 unfolding tag_twice
 twice-is c =

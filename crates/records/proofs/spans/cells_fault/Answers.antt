@@ -1,6 +1,3 @@
--- the calls, and the places of the span
--- 5 is kept where 6 is tested, and what the letters say of 6
--- 6 and 7 are kept where 8 is tested
 use mathlib.Core.Path.{◌≡◌, sym, ap, ◌∙◌}
 use mathlib.Core.Bool.{Bool, false}
 use Prim.Native.Nat.{ℕ}
@@ -19,6 +16,7 @@ use Rattle.records.proofs.spans.cells_fault.Goals.{After-either-calls, After-fir
 pub first-inside-requires : goal.first-inside-requires
 first-inside-requires c = let e = c.span.ensures in let p = c.requires in omega arith
 
+-- the calls, and the places of the span
 calls_is : (c : After-either-calls) → c.either-calls.result ≡ calls_of c.args.part.now
 calls_is c = c.either-calls.ensures ∙ calls_are _ c.letters_of-letters.ensures
 
@@ -31,22 +29,26 @@ stray_bits-requires c = (calls_is (goal.at.stray_bits-requires c).After-either-c
 pub open_end-requires : goal.open_end-requires
 open_end-requires c = (c.requires, calls_is (goal.at.open_end-requires c).After-either-calls)
 
+-- 5 is kept where 6 is tested, and what the letters say of 6
 kept-5 : (c : Else-stray_bits) → has_stray_bits c.args.part.now ≡ false
 kept-5 c = sym c.stray_bits.ensures ∙ c.if-stray_bits.false
 
-unknown-is : (c : After-unknown_call) → c.unknown_call.result ≡ has_unknown_call c.args.part.now
-unknown-is c = c.unknown_call.ensures ∙ unknown-both _ c.letters_of-letters.ensures c.requires ((sym c.stray_bits.ensures ∙ c.if-stray_bits.false))
+unknown-is : (c : After-unknown_call) → has_stray_bits c.args.part.now ≡ false → c.unknown_call.result ≡ has_unknown_call c.args.part.now
+unknown-is c five = c.unknown_call.ensures ∙ unknown-both _ c.letters_of-letters.ensures c.requires five
 
-kept-6 : (c : Else-unknown_call) → has_unknown_call c.args.part.now ≡ false
-kept-6 c = sym ((c.unknown_call.ensures ∙ unknown-both _ c.letters_of-letters.ensures c.requires ((sym c.stray_bits.ensures ∙ c.if-stray_bits.false)))) ∙ c.if-unknown_call.false
+-- 6 and 7 are kept where 8 is tested
+kept-6 : (c : Else-unknown_call) → c.unknown_call.result ≡ has_unknown_call c.args.part.now → has_unknown_call c.args.part.now ≡ false
+kept-6 c e = sym e ∙ c.if-unknown_call.false
 
 kept-7 : (c : Else-open_end) → has_open_end c.args.part.now ≡ false
 kept-7 c = sym c.open_end.ensures ∙ c.if-open_end.false
 
-hole-is : (c : After-hole_refused) → let args = c.args in c.hole_refused.result ≡ (args.gapless and gapped args.part.now)
-hole-is c =
-    c.hole_refused.ensures
-    ∙ ap (λ (b : Bool). c.args.gapless and b) (holes-gapped _ ((c.either-calls.ensures ∙ calls_are _ c.letters_of-letters.ensures)) ((c.first-inside.ensures ∙ ap (λ (e : ℕ). places_where (λ k. k <? e)) c.span.ensures)) c.requires ((sym ((c.unknown_call.ensures ∙ unknown-both _ c.letters_of-letters.ensures c.requires ((sym c.stray_bits.ensures ∙ c.if-stray_bits.false)))) ∙ c.if-unknown_call.false)) ((sym c.open_end.ensures ∙ c.if-open_end.false)))
+-- 6 and 7 are kept where 8 is tested
+hole-is : (c : After-hole_refused)
+    → let args = c.args in
+    c.either-calls.result ≡ calls_of args.part.now → c.first-inside.result ≡ places_where (λ k. k <? span_of args.part.now) → has_unknown_call args.part.now ≡ false → has_open_end args.part.now ≡ false
+    → c.hole_refused.result ≡ (args.gapless and gapped args.part.now)
+hole-is c calls inside six seven = c.hole_refused.ensures ∙ ap (λ (b : Bool). c.args.gapless and b) (holes-gapped _ calls inside c.requires six seven)
 
 pub returns-then-stray_bits : goal.returns-then-stray_bits
 unfolding cell_rules
@@ -54,18 +56,35 @@ returns-then-stray_bits c = sym (rule-broken _ _ _ (sym c.stray_bits.ensures ∙
 
 pub returns-then-unknown_call : goal.returns-then-unknown_call
 unfolding cell_rules
-returns-then-unknown_call c = sym (rule-kept _ _ _ (kept-5 (goal.at.returns-then-unknown_call c).Else-stray_bits) ∙ rule-broken _ _ _ (sym (unknown-is (goal.at.returns-then-unknown_call c).After-unknown_call) ∙ c.if-unknown_call.true))
+returns-then-unknown_call c =
+    let at = goal.at.returns-then-unknown_call c in
+    let five = kept-5 at.Else-stray_bits in
+    sym (rule-kept _ _ _ five ∙ rule-broken _ _ _ (sym (unknown-is at.After-unknown_call five) ∙ c.if-unknown_call.true))
 
 pub returns-then-open_end : goal.returns-then-open_end
 unfolding cell_rules
-returns-then-open_end c = sym (rule-kept _ _ _ (kept-5 (goal.at.returns-then-open_end c).Else-stray_bits) ∙ rule-kept _ _ _ (kept-6 (goal.at.returns-then-open_end c).Else-unknown_call) ∙ rule-broken _ _ _ (sym c.open_end.ensures ∙ c.if-open_end.true))
+returns-then-open_end c =
+    let at = goal.at.returns-then-open_end c in
+    let five = kept-5 at.Else-stray_bits in
+    let six = kept-6 at.Else-unknown_call (unknown-is at.After-unknown_call five) in
+    sym (rule-kept _ _ _ five ∙ rule-kept _ _ _ six ∙ rule-broken _ _ _ (sym c.open_end.ensures ∙ c.if-open_end.true))
 
 pub returns-then-hole_refused : goal.returns-then-hole_refused
 unfolding cell_rules
 returns-then-hole_refused c =
-    sym (rule-kept _ _ _ (kept-5 (goal.at.returns-then-hole_refused c).Else-stray_bits) ∙ rule-kept _ _ _ (kept-6 (goal.at.returns-then-hole_refused c).Else-unknown_call) ∙ rule-kept _ _ _ (kept-7 (goal.at.returns-then-hole_refused c).Else-open_end) ∙ rule-broken _ _ _ (sym (hole-is (goal.at.returns-then-hole_refused c).After-hole_refused) ∙ c.if-hole_refused.true))
+    let at = goal.at.returns-then-hole_refused c in
+    let five = kept-5 at.Else-stray_bits in
+    let six = kept-6 at.Else-unknown_call (unknown-is at.After-unknown_call five) in
+    let seven = kept-7 at.Else-open_end in
+    let hole = hole-is at.After-hole_refused (calls_is at.After-either-calls) (inside_is at.After-first-inside) six seven in
+    sym (rule-kept _ _ _ five ∙ rule-kept _ _ _ six ∙ rule-kept _ _ _ seven ∙ rule-broken _ _ _ (sym hole ∙ c.if-hole_refused.true))
 
 pub returns : goal.returns
 unfolding cell_rules
 returns c =
-    sym (rule-kept _ _ _ (kept-5 (goal.at.returns c).Else-stray_bits) ∙ rule-kept _ _ _ (kept-6 (goal.at.returns c).Else-unknown_call) ∙ rule-kept _ _ _ (kept-7 (goal.at.returns c).Else-open_end) ∙ rule-kept _ _ _ (sym (hole-is (goal.at.returns c).After-hole_refused) ∙ c.if-hole_refused.false) ∙ decide-none _)
+    let at = goal.at.returns c in
+    let five = kept-5 at.Else-stray_bits in
+    let six = kept-6 at.Else-unknown_call (unknown-is at.After-unknown_call five) in
+    let seven = kept-7 at.Else-open_end in
+    let hole = hole-is at.After-hole_refused (calls_is at.After-either-calls) (inside_is at.After-first-inside) six seven in
+    sym (rule-kept _ _ _ five ∙ rule-kept _ _ _ six ∙ rule-kept _ _ _ seven ∙ rule-kept _ _ _ (sym hole ∙ c.if-hole_refused.false) ∙ decide-none _)

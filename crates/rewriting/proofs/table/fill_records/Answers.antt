@@ -14,6 +14,7 @@ use Rattle.rewriting.proofs.RewriteLaws.{new_byte_of, records-written}
 use Rattle.rewriting.proofs.table.fill_records.Goals as goal
 use Rattle.rewriting.proofs.table.fill_records.Goals.{In-loop-k}
 
+-- the turn's byte is one of a record
 inside : (c : In-loop-k) → c.loop-k.k / 32 < fragments c.args.table.now
 inside c = omega (arith, c.loop-k-test.true, c.loop-k.invariant.sized)
 

@@ -1,6 +1,5 @@
 -- `table::fill_records` meets its contract. The invariant: the bytes passed are the new ones.
 -- Assumes nothing.
--- the turn's byte is one of a record
 use Prim.Native.Nat.{◌*◌, ◌-◌}
 use Rattle.fields.specs.Table.{fragments}
 use Rattle.below.proofs.FillLaws.{Filled}

@@ -1,6 +1,5 @@
 -- `depth::covering` meets its contract. The loop's invariant: the count is that of the fragments passed.
 -- Assumes nothing.
--- fragment i covers column c
 use mathlib.Core.Path.{◌≡◌}
 use mathlib.Core.Bool.{Bool}
 use mathlib.Core.List.{List}
@@ -8,6 +7,7 @@ use Prim.Native.Nat.{ℕ, ◌-◌, ◌≤◌}
 use Rattle.below.specs.Below.{nth, count_below, ◌<?◌, ◌≤?◌, ◌and◌}
 use Rattle.slots.proofs.depth.covering.Given as goal
 
+-- fragment i covers column c
 abbrev pub at : List ℕ → List ℕ → ℕ → ℕ → Bool
 at starts ends c i = nth starts i ≤? c and c <? nth ends i
 

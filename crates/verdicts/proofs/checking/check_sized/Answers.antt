@@ -1,4 +1,3 @@
--- what phasing said, by its answer
 use mathlib.Core.Bool.{Bool}
 use mathlib.Core.Path.{◌≡◌, subst, sym, ap, ◌∙◌}
 use Rattle.conflicts.specs.Choice.{keep_all}
@@ -16,6 +15,7 @@ use Rattle.verdicts.proofs.checking.check_sized.Goals.{After-phase_table}
 clauses-outcome-answer : {A B : Type 0} → A × B → record { outcome : A; answer : B }
 clauses-outcome-answer w = record { outcome = w.0; answer = w.1 }
 
+-- what phasing said, by its answer
 said : (c : After-phase_table) (ok : Bool) → c.phase_table.result ≡ ok
     → AnswerFound (grid_of c.args.n c.args.table.now) (keep_all c.args.n) (keep_all c.args.m) ok c.args.answer.now c.phase_table.new.answer
 said c ok e = subst (λ (b : Bool). AnswerFound (grid_of c.args.n c.args.table.now) (keep_all c.args.n) (keep_all c.args.m) b c.args.answer.now c.phase_table.new.answer) e c.phase_table.ensures

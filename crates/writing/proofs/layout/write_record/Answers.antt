@@ -1,6 +1,5 @@
 -- `layout::write_record` meets its contract.
 -- Assumes nothing.
--- the span, from the start and the end that are read
 use mathlib.Core.Path.{◌≡◌, ap₂}
 use Prim.Native.Nat.{◌-◌}
 use native.Mathlib.Omega.{arith}
@@ -22,6 +21,7 @@ returns-then-grade-gt15 c =
     let a = c.args in
     not-graded a.tag a.grade a.row.now a.«record».now c.if-grade-gt15.true
 
+-- the span, from the start and the end that are read
 span-is : (c : After-calls_end)
     → let row = c.args.row.now in
     c.calls_end.result - c.calls_start-start.result ≡ calls_span_of (length row) (codes_of row)
