@@ -2,7 +2,7 @@
 -- Assumes nothing.
 use mathlib.Core.Path.{◌≡◌, refl, sym, ap, ap₂, subst, ◌∙◌}
 use mathlib.Core.Bool.{Bool, true, false}
-use Prim.Native.Nat.{ℕ, zero, suc, ◌+◌, ◌*◌, ◌-◌, ◌/◌, ◌%◌, ◌^◌, ◌≤◌, ◌<◌}
+use Prim.Native.Nat.{ℕ, zero, suc, ◌+◌, ◌*◌, ◌-◌, ◌/◌, ◌%◌, ◌^◌, ◌≤◌, ◌<◌, min}
 use native.Mathlib.Nat.{mul_comm, mul_assoc, add-mul, add_assoc, pow-suc, lt_of_lt_of_le, mod-lt, mul-mod_left, mul-add-mod_self_right}
 use native.Mathlib.Decide.{dec_lt}
 use native.Mathlib.Omega.{arith}
@@ -200,19 +200,20 @@ first_word k h =
     let one : 1 * 2 ^ k % 2 ^ 64 ≡ 2 ^ k = shl_one k h ∙ omega arith in
     (rw one (pow_pos k), rw one (word_first k (omega arith)))
 
-module _ (n : ℕ) {w : ℕ} where
-  pub first-few : n ≤ 64 → w ≡ word_of 64 (λ b. b <? n) → places w 0 ≡ places_where (λ c. c <? n)
-  unfolding places_where half_word
-  first-few h e = ap₂ places (e ∙ word-ext 64 _ _ (λ b l. ap (λ (z : ℕ). z <? n) (omega arith))) (word_none 64 _ (λ b l. <?-false _ n (omega arith)))
-
-  pub first-many : 64 < n → w ≡ word_of 64 (λ b. b <? (n - 64)) → places (2 ^ 64 - 1) w ≡ places_where (λ c. c <? n)
-  unfolding places_where half_word
-  first-many h e =
-      ap₂ places (word_first 64 (omega arith) ∙ word-ext 64 _ _ (λ b l. <?-true b 64 l ∙ sym (<?-true _ n (omega arith))))
-      (e ∙ word-ext 64 _ _ (λ b l. elim (dec_lt b (n - 64)) [
-        | yes g ↦ <?-true b (n - 64) g ∙ sym (<?-true _ n (omega arith))
-        | no g ↦ <?-false b (n - 64) (omega arith) ∙ sym (<?-false _ n (omega arith))
-      ]))
+-- the first n places, from the words of those below 64 and of the others
+pub first-places : (n : ℕ) {k l low high : ℕ} → k ≡ min n 64 → l ≡ n - 64 → low ≡ word_of 64 (λ b. b <? k) → high ≡ word_of 64 (λ b. b <? l)
+    → places low high ≡ places_where (λ c. c <? n)
+unfolding places_where half_word
+first-places n {k} {l} ek el e f =
+    ap₂ places
+    (e ∙ word-ext 64 _ _ (λ b h. elim (dec_lt b n) [
+      | yes g ↦ <?-true b k (omega arith) ∙ sym (<?-true _ n (omega arith))
+      | no g ↦ <?-false b k (omega arith) ∙ sym (<?-false _ n (omega arith))
+    ]))
+    (f ∙ word-ext 64 _ _ (λ b h. elim (dec_lt b l) [
+      | yes g ↦ <?-true b l g ∙ sym (<?-true _ n (omega arith))
+      | no g ↦ <?-false b l (omega arith) ∙ sym (<?-false _ n (omega arith))
+    ]))
 
 -- ---- four digits more
 
@@ -227,6 +228,10 @@ module _ (b word four : ℕ) (room : b + 4 ≤ 64) (small : word < 2 ^ b) (few :
   four-more = ap (λ (z : ℕ). z + word) four_is
 
 -- ---- more digits
+
+-- k digits have room above b others
+pub few-fit : (k b : ℕ) {more : ℕ} → k + b ≤ 64 → more < 2 ^ k → more < 2 ^ (64 - b)
+few-fit k b room h = lt_of_lt_of_le h (pow_mono {i = k} {j = 64 - b} (omega arith))
 
 module _ (b word more : ℕ) (inside : b < 64) (small : word < 2 ^ b) (few : more < 2 ^ (64 - b)) where
   width : 64 - b + b ≡ 64

@@ -7,7 +7,10 @@ use Prim.Native.Nat.{ℕ, zero, suc, ◌+◌, ◌*◌, ◌-◌, ◌/◌, ◌%◌
 use native.Mathlib.Nat.{add-zero, pow-suc, mod-lt}
 use native.Mathlib.Numerals.{add-one}
 use native.Mathlib.Omega.{arith}
-use lib.Count.{count_leading_zeros, count_trailing_zeros, under, leading_of_zero, leading_unique}
+use lib.Count.{count_leading_zeros, count_trailing_zeros, under, leading_of_zero, leading_unique, leading_top, trailing_of_zero}
+use Rattle.std.proofs.lemmas.Nat.Bits.{bit_at-trailing_zeros}
+use Rattle.std.specs.Int.{w64}
+use Rattle.std.proofs.Common.{◌≢◌}
 use lib.Pow.{shr_lt, shr-shr, split, high, low}
 use Rattle.below.specs.Below.{bit, ◌=?◌, first_below, end_below}
 use Rattle.below.proofs.SearchLaws.{<?-true, <?-false, none_yet, none_more}
@@ -94,24 +97,33 @@ module _ (x : Places) (lo : x.low < 2 ^ 64) (hi : x.high < 2 ^ 64) where
   trailing : count_trailing_zeros 64 x.low ≡ first_below 64 (has_place x)
   trailing = ap (count_trailing_zeros 64) low_word ∙ trailing-word 64 _
 
-  pub lowest-low : count_trailing_zeros 64 x.low < 64 → count_trailing_zeros 64 x.low ≡ first_below 128 (has_place x)
-  lowest-low h = let e = trailing in e ∙ first-low 64 64 (has_place x) (omega arith)
+  pub lowest-low : x.low ≢ 0 → count_trailing_zeros 64 x.low ≡ first_below 128 (has_place x)
+  lowest-low h =
+      let e = trailing in
+      let few = (bit_at-trailing_zeros w64 x.low (omega arith) lo).0 in
+      e ∙ first-low 64 64 (has_place x) (omega arith)
 
-  pub lowest-high : 64 ≤ count_trailing_zeros 64 x.low → 64 + count_trailing_zeros 64 x.high ≡ first_below 128 (has_place x)
+  pub lowest-high : x.low ≡ 0 → 64 + count_trailing_zeros 64 x.high ≡ first_below 128 (has_place x)
   lowest-high h =
       let e = trailing in
+      let all = ap (count_trailing_zeros 64) h ∙ trailing_of_zero 64 in
       ap (λ (z : ℕ). 64 + z) (ap (count_trailing_zeros 64) high_word ∙ trailing-word 64 _) ∙ first-high 64 64 (has_place x) (omega arith)
 
   -- the end of its places: in the higher word, and else in the lower
   leading : count_leading_zeros 64 x.high + end_below 64 (λ b. has_place x (64 + b)) ≡ 64
   leading = ap (λ (z : ℕ). count_leading_zeros 64 z + end_below 64 (λ b. has_place x (64 + b))) high_word ∙ leading-word 64 64 _ (omega arith)
 
-  pub highest-high : count_leading_zeros 64 x.high < 64 → 128 - count_leading_zeros 64 x.high ≡ end_below 128 (has_place x)
-  highest-high h = let l = leading in let e = end-high 64 64 (has_place x) (omega arith) in omega arith
+  pub highest-high : x.high ≢ 0 → 128 - count_leading_zeros 64 x.high ≡ end_below 128 (has_place x)
+  highest-high h =
+      let l = leading in
+      let few = (leading_top 64 x.high (omega arith) hi).1 in
+      let e = end-high 64 64 (has_place x) (omega arith) in
+      omega arith
 
-  pub highest-low : 64 ≤ count_leading_zeros 64 x.high → 64 - count_leading_zeros 64 x.low ≡ end_below 128 (has_place x)
+  pub highest-low : x.high ≡ 0 → 64 - count_leading_zeros 64 x.low ≡ end_below 128 (has_place x)
   highest-low h =
       let l = leading in
+      let all = ap (count_leading_zeros 64) h ∙ leading_of_zero 64 in
       let k = ap (λ (z : ℕ). count_leading_zeros 64 z + end_below 64 (has_place x)) low_word ∙ leading-word 64 64 (has_place x) (omega arith) in
       let e = end_low 64 64 (has_place x) (omega arith) in
       omega arith

@@ -4,7 +4,7 @@ ghost use Rattle.places.specs.Algorithm.Places.{conflict_places, agree_places, e
 
 use crate::places::Places;
 
-#[derive(Clone, Copy)]
+#[derive(Clone, Copy, Default)]
 pub struct Line {
     pub a: Places,
     pub b: Places,
@@ -15,16 +15,14 @@ impl Line {
     pub fn conflicts(self, other: Line) -> Places
         ensures { result ≡ conflict_places self other }
     {
-        let one = self.a.both(other.b);
-        one.either(self.b.both(other.a))
+        self.a.both(other.b).either(self.b.both(other.a))
     }
 
     // The places at which both have one letter.
     pub fn agreements(self, other: Line) -> Places
         ensures { result ≡ agree_places self other }
     {
-        let one = self.a.both(other.a);
-        one.either(self.b.both(other.b))
+        self.a.both(other.a).either(self.b.both(other.b))
     }
 
     // Where either line has A, and where either has B.
@@ -42,8 +40,7 @@ impl Line {
 pub fn conflict_kept(first: Line, second: Line, keep: Places) -> bool
     ensures { result ≡ conflict_kept_in keep first second }
 {
-    let conflicts = first.conflicts(second);
-    keep.both(conflicts).any()
+    keep.both(first.conflicts(second)).any()
 }
 
 // At how many of the kept places two lines conflict.
@@ -51,16 +48,12 @@ pub fn conflict_count(first: Line, second: Line, keep: Places) -> u32
     ensures number { result ≡ conflict_size keep first second }
     ensures most { result ≤ 128 }
 {
-    let places = first.conflicts(second);
-    keep.both(places).count()
+    keep.both(first.conflicts(second)).count()
 }
 
 // Whether two columns are in conflict: some fragment has one letter at both, and some has two (paper 001, section 3.1).
 pub fn columns_conflict(first: Line, second: Line) -> bool
     ensures { result ≡ both_kinds first second }
 {
-    if first.agreements(second).any() {
-        return first.conflicts(second).any();
-    }
-    false
+    first.agreements(second).any() && first.conflicts(second).any()
 }

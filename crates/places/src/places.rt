@@ -4,7 +4,9 @@ ghost use Rattle.below.specs.Below.{bit, ◌<?◌, ◌≤?◌, ◌and◌, first_
 ghost use Rattle.places.specs.Algorithm.Words.{word_of};
 ghost use Rattle.places.specs.Algorithm.Places.{places_where, both_places, either_of, without_of, has_place, size, occupied};
 
-#[derive(Clone, Copy)]
+use crate::digits::with_digits;
+
+#[derive(Clone, Copy, Default)]
 pub struct Places {
     pub low: u64,
     pub high: u64,
@@ -31,13 +33,13 @@ impl Places {
         }
     }
 
-    // The places that the other set has not. What both have is taken away, which carries nothing.
+    // The places that the other set has not.
     pub fn without(self, other: Places) -> Places
         ensures { result ≡ without_of self other }
     {
         Places {
-            low: self.low - (self.low & other.low),
-            high: self.high - (self.high & other.high),
+            low: self.low & !other.low,
+            high: self.high & !other.high,
         }
     }
 
@@ -46,10 +48,8 @@ impl Places {
         requires { c < 128 }
         ensures { result ≡ has_place self c }
     {
-        if c < 64 {
-            return (self.low >> c) % 2 == 1;
-        }
-        (self.high >> (c - 64)) % 2 == 1
+        let word = if c < 64 { self.low } else { self.high };
+        (word >> (c % 64)) % 2 == 1
     }
 
     // Every place s further up; those that come past the last are left out.
@@ -57,21 +57,20 @@ impl Places {
         ensures { (p : ℕ → Bool) → self ≡ places_where p → result ≡ places_where (λ c. s ≤? c and p (c - s)) }
     {
         if s == 0 {
-            return self;
-        }
-        if s < 64 {
-            return Places {
+            self
+        } else if s < 64 {
+            Places {
                 low: self.low << s,
                 high: (self.high << s) + (self.low >> (64 - s)),
-            };
-        }
-        if s < 128 {
-            return Places {
+            }
+        } else if s < 128 {
+            Places {
                 low: 0,
                 high: self.low << (s - 64),
-            };
+            }
+        } else {
+            Places::default()
         }
-        Places { low: 0, high: 0 }
     }
 
     // The first places.
@@ -79,15 +78,9 @@ impl Places {
         requires { count ≤ 128 }
         ensures { result ≡ places_where (λ c. c <? count) }
     {
-        if count <= 64 {
-            return Places {
-                low: first_bits(count),
-                high: 0,
-            };
-        }
         Places {
-            low: u64::MAX,
-            high: first_bits(count - 64),
+            low: first_bits(count.min(64)),
+            high: first_bits(count.saturating_sub(64)),
         }
     }
 
@@ -96,7 +89,7 @@ impl Places {
         ensures number { result ≡ size self }
         ensures most { result ≤ 128 }
     {
-        u64::count_ones(self.low) + u64::count_ones(self.high)
+        self.low.count_ones() + self.high.count_ones()
     }
 
     // Whether it has one.
@@ -110,22 +103,22 @@ impl Places {
     pub fn lowest(self) -> u32
         ensures { result ≡ first_below 128 (has_place self) }
     {
-        let low = u64::trailing_zeros(self.low);
-        if low < 64 {
-            return low;
+        if self.low != 0 {
+            self.low.trailing_zeros()
+        } else {
+            64 + self.high.trailing_zeros()
         }
-        64 + u64::trailing_zeros(self.high)
     }
 
     // One past its highest place, and 0 where it has none.
     pub fn end(self) -> u32
         ensures { result ≡ end_below 128 (has_place self) }
     {
-        let high = u64::leading_zeros(self.high);
-        if high < 64 {
-            return 128 - high;
+        if self.high != 0 {
+            128 - self.high.leading_zeros()
+        } else {
+            64 - self.low.leading_zeros()
         }
-        64 - u64::leading_zeros(self.low)
     }
 }
 
@@ -134,10 +127,7 @@ pub fn with_bit(word: u64, b: usize, on: bool) -> u64
     requires { (b < 64) × (word < 2 ^ b) }
     ensures { result ≡ bit on * 2 ^ b + word }
 {
-    if on {
-        return (1u64 << b) + word;
-    }
-    word
+    with_digits(word, b, u64::from(on))
 }
 
 // The lowest bits of a word.
@@ -146,9 +136,10 @@ fn first_bits(count: usize) -> u64
     ensures { result ≡ word_of 64 (λ b. b <? count) }
 {
     if count == 64 {
-        return u64::MAX;
+        u64::MAX
+    } else {
+        (1u64 << count) - 1
     }
-    (1u64 << count) - 1
 }
 
 // The word with four bits more, above all its bits.

@@ -9,6 +9,6 @@ pub returns-then-any : goal.returns-then-any
 unfolding both_kinds
 returns-then-any c = c.any-then-any.ensures ∙ ap occupied c.conflicts.ensures ∙ and-true _ (sym (c.any.ensures ∙ ap occupied c.agreements.ensures) ∙ c.if-any.true)
 
-pub returns : goal.returns
+pub returns-else-any : goal.returns-else-any
 unfolding both_kinds
-returns c = and-false _ (sym (c.any.ensures ∙ ap occupied c.agreements.ensures) ∙ c.if-any.false)
+returns-else-any c = c.if-any.false ∙ and-false _ (sym (c.any.ensures ∙ ap occupied c.agreements.ensures) ∙ c.if-any.false)

@@ -8,4 +8,4 @@ pub returns : goal.returns
 unfolding conflict_size
 returns c =
     let a = c.args in
-    record { number = c.count.ensures.number ∙ ap size (c.both.ensures ∙ ap (both_places a.keep) c.conflicts-places.ensures); most = c.count.ensures.most }
+    record { number = c.count.ensures.number ∙ ap size (c.both.ensures ∙ ap (both_places a.keep) c.conflicts.ensures); most = c.count.ensures.most }

@@ -6,4 +6,4 @@ use Rattle.places.proofs.lines.conflict_kept.Goals as goal
 
 pub returns : goal.returns
 unfolding conflict_kept_in
-returns c = c.any.ensures ∙ ap occupied (c.both.ensures ∙ ap (both_places c.args.keep) c.conflicts-conflicts.ensures)
+returns c = c.any.ensures ∙ ap occupied (c.both.ensures ∙ ap (both_places c.args.keep) c.conflicts.ensures)

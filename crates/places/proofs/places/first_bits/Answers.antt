@@ -14,5 +14,5 @@ returns-then-count-eq64 c = word_first 64 (omega arith) ∙ ap (λ (k : ℕ). wo
 pub overflow_sub-result : goal.overflow_sub-result
 overflow_sub-result c = let h = c.if-count-eq64.false in (first_word c.args.count (omega arith)).0
 
-pub returns : goal.returns
-returns c = let h = c.if-count-eq64.false in (first_word c.args.count (omega arith)).1
+pub returns-else-count-eq64 : goal.returns-else-count-eq64
+returns-else-count-eq64 c = let h = c.if-count-eq64.false in (first_word c.args.count (omega arith)).1

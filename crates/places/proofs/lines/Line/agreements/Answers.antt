@@ -6,4 +6,4 @@ use Rattle.places.proofs.lines.Line.agreements.Goals as goal
 
 pub returns : goal.returns
 unfolding agree_places
-returns c = c.either.ensures ∙ ap₂ either_of c.both-one.ensures c.both.ensures
+returns c = c.either.ensures ∙ ap₂ either_of c.both.ensures c.both-2.ensures

@@ -1,10 +1,7 @@
 -- `places::Places::first` meets its contract.
 -- Assumes nothing.
-use Rattle.places.proofs.ShiftLaws.{first-few, first-many}
+use Rattle.places.proofs.ShiftLaws.{first-places}
 use Rattle.places.proofs.places.Places.first.Goals as goal
 
-pub returns-then-count-le64 : goal.returns-then-count-le64
-returns-then-count-le64 c = first-few c.args.count c.if-count-le64.true c.first_bits.ensures
-
 pub returns : goal.returns
-returns c = first-many c.args.count c.if-count-le64.false c.first_bits-2.ensures
+returns c = first-places c.args.count c.min.ensures c.saturating_sub.ensures c.first_bits.ensures c.first_bits-2.ensures
