@@ -65,9 +65,9 @@ pub code_at-nil : (c : ℕ) → code_at [] c ≡ 0
 unfolding start_of span_of little_endian
 code_at-nil c = code_at-out [] c (λ h. h)
 
--- a cleared row of w columns, with the cells written from the start to the least of the span's end, the 96 cells, n and w
+-- a cleared row of w columns, with the cells written from the start to the least of the span's end, that of the 96 cells, n and w
 module _ (r : List ℕ) (n w : ℕ) {s k shown end first : ℕ} {cleared : List ℕ} (clear : cleared ≡ replicate w 0)
-    (es : s ≡ start_of r) (ek : k ≡ min (span_of r) 96) (shows : shown ≡ min n (length cleared)) (ends : end ≡ min (s + k) shown) (firsts : first ≡ min s end) where
+    (es : s ≡ start_of r) (ek : k ≡ min (span_of r) 96) (shows : shown ≡ min (s + k) n) (ends : end ≡ min shown (length cleared)) (firsts : first ≡ min s end) where
   as_wide : length cleared ≡ w
   as_wide = ap length clear ∙ length-replicate w 0
 

@@ -2,31 +2,39 @@
 ghost use Rattle.std.specs.Prelude.{◌≡◌, ◌*◌, ◌/◌, ◌%◌, ◌^◌, get_or};
 ghost use Rattle.fields.specs.Record.{is_call_code, tag_of, start_of, span_of, grade_of, cell_of};
 
+// How many bytes a record has, how many of them stand before its cells, and how many cells it has.
+pub const RECORD_BYTES: usize = 32;
+
+pub const HEADER_BYTES: usize = 8;
+
+pub const CELLS: usize = 96;
+
+// The codes of a cell; 3 has no meaning.
+pub const HOLE: u8 = 0;
+
+pub const A: u8 = 1;
+
+pub const B: u8 = 2;
+
 // Byte i, or 0 past the end.
 pub fn byte(part: &[u8], i: usize) -> u8
     ensures { result ≡ get_or part.now i 0 }
 {
-    if i < part.len() { part[i] } else { 0 }
+    part.get(i).copied().unwrap_or(0)
 }
 
 // The tag: bytes 0 to 3, little-endian.
 pub fn tag(part: &[u8]) -> u32
     ensures { result ≡ tag_of part.now }
 {
-    let a = byte(part, 0) as u32;
-    let b = byte(part, 1) as u32;
-    let c = byte(part, 2) as u32;
-    let d = byte(part, 3) as u32;
-    a + 256 * b + 65536 * c + 16777216 * d
+    u32::from_le_bytes([byte(part, 0), byte(part, 1), byte(part, 2), byte(part, 3)])
 }
 
 // The first called column: bytes 4 and 5, little-endian.
 pub fn start(part: &[u8]) -> u16
     ensures { result ≡ start_of part.now }
 {
-    let a = byte(part, 4) as u16;
-    let b = byte(part, 5) as u16;
-    a + 256 * b
+    u16::from_le_bytes([byte(part, 4), byte(part, 5)])
 }
 
 // How many columns the calls reach over: byte 6.
@@ -47,26 +55,16 @@ pub fn grade(part: &[u8]) -> u8
 pub fn is_call(code: u8) -> bool
     ensures { result ≡ is_call_code code }
 {
-    if code == 1 {
-        return true;
-    }
-    code == 2
-}
-
-// The code of cell i in the byte that holds it.
-fn code_in(codes: u8, i: usize) -> u8
-    ensures { result ≡ codes / 2 ^ (2 * (i % 4)) % 4 }
-{
-    let low = 2 * (i % 4);
-    (codes >> low) % 4
+    code == A || code == B
 }
 
 // The code of cell i, from byte 8 + i / 4; 0 from cell 96 on.
 pub fn cell(part: &[u8], i: usize) -> u8
     ensures { result ≡ cell_of part.now i }
 {
-    if 96 <= i {
-        return 0;
+    if i < CELLS {
+        (byte(part, HEADER_BYTES + i / 4) >> (2 * (i % 4))) % 4
+    } else {
+        HOLE
     }
-    code_in(byte(part, 8 + i / 4), i)
 }

@@ -8,9 +8,5 @@ const WEIGHTS: [u8; 16] = [1, 1, 2, 3, 4, 6, 8, 10, 13, 16, 20, 25, 31, 38, 46, 
 pub fn weight(grade: u8) -> u8
     ensures { (result ≡ weight_of grade) × (1 ≤ result) × (result ≤ 60) }
 {
-    let at = grade as usize;
-    if at < 16 {
-        return WEIGHTS[at];
-    }
-    1
+    WEIGHTS.get(usize::from(grade)).copied().unwrap_or(1)
 }

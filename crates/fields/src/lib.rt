@@ -7,7 +7,9 @@ mod letters;
 mod rows;
 mod table;
 
-pub use fields::{byte, cell, grade, is_call, span, start, tag};
+pub use fields::{
+    A, B, CELLS, HEADER_BYTES, HOLE, RECORD_BYTES, byte, cell, grade, is_call, span, start, tag,
+};
 pub use grades::weight;
 pub use letters::letters_of;
 pub use rows::{clear, fill_row};

@@ -1,13 +1,10 @@
-use mathlib.Core.Path.{sym, ◌∙◌}
-use native.Mathlib.Omega.{arith}
+use mathlib.Core.Path.{sym}
 use Rattle.fields.proofs.ByteLaws.{cell-past}
 use Rattle.fields.proofs.FieldLaws.{cell-shifted}
 use Rattle.fields.proofs.fields.cell.Goals as goal
 
-pub returns-then-i-ge96 : goal.returns-then-i-ge96
-returns-then-i-ge96 c = sym (cell-past c.args.part.now c.args.i c.if-i-ge96.true)
+pub returns-then-i-lt-CELLS : goal.returns-then-i-lt-CELLS
+returns-then-i-lt-CELLS c = cell-shifted c.args.part.now c.args.i _ c.if-i-lt-CELLS.true c.byte.ensures
 
-pub returns : goal.returns
-returns c =
-    let a = c.args in
-    c.code_in.ensures ∙ cell-shifted a.part.now a.i _ (omega arith) c.byte.ensures
+pub returns-else-i-lt-CELLS : goal.returns-else-i-lt-CELLS
+returns-else-i-lt-CELLS c = sym (cell-past c.args.part.now c.args.i c.if-i-lt-CELLS.false)

@@ -3,5 +3,4 @@ use native.Mathlib.Omega.{arith}
 use Rattle.fields.proofs.fields.start.Goals as goal
 
 pub returns : goal.returns
-returns c =
-    omega (arith, start-bytes c.args.part.now)
+returns c = omega (arith, start-bytes c.args.part.now)

@@ -3,5 +3,4 @@ use native.Mathlib.Omega.{arith}
 use Rattle.fields.proofs.fields.tag.Goals as goal
 
 pub returns : goal.returns
-returns c =
-    omega (arith, tag-bytes c.args.part.now)
+returns c = omega (arith, tag-bytes c.args.part.now)

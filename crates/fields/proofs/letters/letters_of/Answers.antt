@@ -12,6 +12,6 @@ pub returns : goal.returns
 unfolding letters_in places_where has_a has_b ◌=?◌
 returns c =
     let r = c.args.part.now in
-    let low = c.letter_words-low in
-    let high = c.letter_words-high in
+    let low = c.letter_words-a_low in
+    let high = c.letter_words-a_high in
     ap₂ line (ap₂ places (low_word r has_a refl low.ensures.a) (high_word r has_a refl high.ensures.a)) (ap₂ places (low_word r has_b refl low.ensures.b) (high_word r has_b refl high.ensures.b))

@@ -7,9 +7,9 @@ use Rattle.fields.proofs.rows.fill_row.Goals as goal
 pub returns : goal.returns
 returns c =
     let a = c.args in
-    row-filled a.part.now a.n (length a.row.now) c.clear.ensures c.start-s.ensures
-    (c.smaller-k.ensures ∙ ap (λ (k : ℕ). min k 96) c.span.ensures)
-    c.smaller.ensures
-    c.smaller-end.ensures
-    c.smaller-first.ensures
+    row-filled a.part.now a.n (length a.row.now) (c.fill.ensures.after (λ y e. e)) (c.from-s.ensures ∙ c.start.ensures)
+    (c.min-k.ensures ∙ ap (λ (k : ℕ). min k 96) (c.from.ensures ∙ c.span.ensures))
+    c.min.ensures
+    c.min-end.ensures
+    c.min-first.ensures
     c.write_cells.ensures

@@ -15,8 +15,9 @@ loop-b-preserved c =
     let x = c.byte-codes.result in
     let r = c.args.part.now in
     let is : (q : ℕ) → q < 4 → x / 4 ^ q % 4 ≡ cell_of r (4 * loop.b + q) = λ q l. cell-of-byte r loop.b q x (omega arith) l c.byte-codes.ensures in
-    let whole : x % 4 ≡ x / 1 % 4 = omega arith in
-    filled-four _ _ (4 * loop.b) _ loop.row _ _ _ _ loop.invariant (omega arith) (omega arith) (whole ∙ is 0 (omega arith) ∙ ap (cell_of r) (omega arith)) (is 1 (omega arith)) (is 2 (omega arith)) (is 3 (omega arith))
+    let first : x % 4 ≡ x / 1 % 4 = omega arith in
+    let last : x / 64 ≡ x / 64 % 4 = omega (arith, c.byte-codes.type_inv) in
+    filled-four _ _ (4 * loop.b) _ loop.row _ _ _ _ loop.invariant (omega arith) (omega arith) (first ∙ is 0 (omega arith) ∙ ap (cell_of r) (omega arith)) (is 1 (omega arith)) (is 2 (omega arith)) (last ∙ is 3 (omega arith))
 
 pub returns : goal.returns
 returns c = λ j h. c.loop-b.invariant.done j (omega arith)

@@ -1,4 +1,4 @@
-use Prim.Native.Nat.{◌*◌, ◌-◌}
+use Prim.Native.Nat.{◌*◌}
 use lib.ListN.{length}
 use Rattle.fields.specs.Record.{cell_of}
 use Rattle.below.proofs.FillLaws.{Filled}
@@ -6,6 +6,3 @@ use Rattle.fields.proofs.rows.write_bytes.Given as goal
 
 abbrev pub invariant-loop-b : goal.invariant-loop-b
 invariant-loop-b l = Filled (length l.initial.row) (cell_of l.part) (4 * l.b) l.row
-
-abbrev pub decreases-loop-b : goal.decreases-loop-b
-decreases-loop-b l = l.count - l.b

@@ -1,4 +1,3 @@
-use Prim.Native.Nat.{◌-◌}
 use lib.ListN.{length}
 use Rattle.fields.specs.Record.{cell_of}
 use Rattle.below.proofs.FillLaws.{Filled}
@@ -6,6 +5,3 @@ use Rattle.fields.proofs.rows.write_cells.Given as goal
 
 abbrev pub invariant-loop-c : goal.invariant-loop-c
 invariant-loop-c l = Filled (length l.initial.row) (cell_of l.part) l.c l.row
-
-abbrev pub decreases-loop-c : goal.decreases-loop-c
-decreases-loop-c l = length l.initial.row - l.c
