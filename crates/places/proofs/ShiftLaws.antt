@@ -215,18 +215,6 @@ first-places n {k} {l} ek el e f =
       | no g ↦ <?-false b l (omega arith) ∙ sym (<?-false _ n (omega arith))
     ]))
 
--- ---- four digits more
-
-module _ (b word four : ℕ) (room : b + 4 ≤ 64) (small : word < 2 ^ b) (few : four < 16) where
-  four_is : four * 2 ^ b % 2 ^ 64 ≡ four * 2 ^ b
-  four_is = shl_exact 4 b 64 few (omega arith)
-
-  pub four-fits : four * 2 ^ b % 2 ^ 64 + word < 2 ^ 64
-  four-fits = rw four_is (lt_of_lt_of_le (subst (λ (z : ℕ). four * 2 ^ b + word < z) (sym (pow-add 2 4 b)) (digits_lt few small)) (pow_mono {i = 4 + b} {j = 64} (omega arith)))
-
-  pub four-more : four * 2 ^ b % 2 ^ 64 + word ≡ four * 2 ^ b + word
-  four-more = ap (λ (z : ℕ). z + word) four_is
-
 -- ---- more digits
 
 -- k digits have room above b others

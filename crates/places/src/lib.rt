@@ -7,4 +7,4 @@ mod places;
 
 pub use digits::{evens, with_digits};
 pub use lines::{Line, columns_conflict, conflict_count, conflict_kept};
-pub use places::{Places, with_bit, with_four};
+pub use places::{Places, with_bit};

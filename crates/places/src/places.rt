@@ -141,11 +141,3 @@ fn first_bits(count: usize) -> u64
         (1u64 << count) - 1
     }
 }
-
-// The word with four bits more, above all its bits.
-pub fn with_four(word: u64, b: usize, four: u64) -> u64
-    requires { (b + 4 ≤ 64) × (word < 2 ^ b) × (four < 16) }
-    ensures { result ≡ four * 2 ^ b + word }
-{
-    (four << b) + word
-}
