@@ -2,23 +2,15 @@
 #![tactic(auto)]
 
 ghost use Rattle.std.specs.Prelude.{◌≡◌};
-ghost use Rattle.conflicts.specs.Tally.{no_calls, one_more_of, tallied, mixed_tally};
+ghost use Rattle.conflicts.specs.Tally.{no_calls, tallied, mixed_tally};
+
+use fields::{A, B};
 
 // How many A and how many B a column has.
 #[derive(Clone, Copy)]
 pub struct Tally {
     pub a: u32,
     pub b: u32,
-}
-
-// One more; a count at its last number stays there.
-fn one_more(count: u32) -> u32
-    ensures { result ≡ one_more_of count }
-{
-    if count < 4294967295 {
-        return count + 1;
-    }
-    count
 }
 
 impl Tally {
@@ -29,28 +21,27 @@ impl Tally {
         Tally { a: 0, b: 0 }
     }
 
-    // The tally with one call more; a code that is no call leaves it.
+    // The tally with one call more; a code that is no call leaves it, and a count at its last number stays there.
     pub fn with_call(self, code: u8) -> Tally
         ensures { result ≡ tallied self code }
     {
-        if code == 1 {
-            let a = one_more(self.a);
-            return Tally { a: a, b: self.b };
+        match code {
+            A => Tally {
+                a: self.a.saturating_add(1),
+                b: self.b,
+            },
+            B => Tally {
+                a: self.a,
+                b: self.b.saturating_add(1),
+            },
+            _ => self,
         }
-        if code == 2 {
-            let b = one_more(self.b);
-            return Tally { a: self.a, b: b };
-        }
-        self
     }
 
     // Both letters occur.
     pub fn is_mixed(self) -> bool
         ensures { result ≡ mixed_tally self }
     {
-        if 0 < self.a {
-            return 0 < self.b;
-        }
-        false
+        0 < self.a && 0 < self.b
     }
 }

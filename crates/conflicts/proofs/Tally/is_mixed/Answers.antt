@@ -9,6 +9,6 @@ pub returns-then-self-gt0 : goal.returns-then-self-gt0
 unfolding mixed_tally ◌<?◌ ◌and◌
 returns-then-self-gt0 c = rw (lt-ltb _ _ c.if-self-gt0.true)
 
-pub returns : goal.returns
+pub returns-else-self-gt0 : goal.returns-else-self-gt0
 unfolding mixed_tally ◌<?◌ ◌and◌
-returns c = rw (le-ltb _ _ c.if-self-gt0.false)
+returns-else-self-gt0 c = rw (le-ltb _ _ c.if-self-gt0.false)
