@@ -10,11 +10,9 @@ pub fn fill_matrix(n: usize, table: &[u8], cells: &mut [u8])
     requires { length cells.old ≡ 16384 }
     ensures { cells.new ≡ table_cells n table.now }
 {
-    let mut i = 0;
-    while i < 128 {
+    for i in 0..128 {
         let from = 128 * i;
         fill_row(n, record_at(table, i), &mut cells[from..from + 128]);
-        i += 1;
     }
 }
 
@@ -23,14 +21,11 @@ fn cell_at(cells: &[u8], i: usize, c: usize) -> u8
     ensures { result ≡ get_or cells.now (i * 128 + c) 0 }
 {
     let rows = cells.len() / 128;
-    if rows < i {
-        return 0;
+    if i <= rows && c < cells.len() - i * 128 {
+        cells[i * 128 + c]
+    } else {
+        0
     }
-    let start = i * 128;
-    if c < cells.len() - start {
-        return cells[start + c];
-    }
-    0
 }
 
 // Fragment i calls column c.

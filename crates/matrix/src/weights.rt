@@ -16,9 +16,7 @@ pub fn fill_weights(table: &[u8], weights: &mut [u8])
     requires { length weights.old ≡ 128 }
     ensures { weights.new ≡ table_weights table.now }
 {
-    let mut i = 0;
-    while i < 128 {
+    for i in 0..128 {
         weights[i] = weight_at(table, i);
-        i += 1;
     }
 }

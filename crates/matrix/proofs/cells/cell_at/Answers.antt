@@ -5,13 +5,15 @@ use Prim.Native.Nat.{◌+◌, ◌*◌}
 use native.Mathlib.Omega.{arith}
 use lib.ListN.{get_or-eq_default}
 use Rattle.matrix.proofs.cells.cell_at.Goals as goal
+use Rattle.matrix.proofs.cells.cell_at.Goals.{else-i-rows-via-then-i-rows+else-c-cells, else-i-rows-via-else-i-rows}
 
-pub returns-then-rows-i : goal.returns-then-rows-i
-returns-then-rows-i c =
+pub returns-else-i-rows : goal.returns-else-i-rows
+returns-else-i-rows c =
     let a = c.args in
-    sym (get_or-eq_default a.cells.now 0 {n = a.i * 128 + a.c} (omega arith))
-
-pub returns : goal.returns
-returns c =
-    let a = c.args in
-    sym (get_or-eq_default a.cells.now 0 {n = a.i * 128 + a.c} (omega arith))
+    elim c.else-i-rows.branch [
+      | else-i-rows-via-then-i-rows+else-c-cells w ↦
+          let row = w.if-i-rows.true in
+          let past = w.if-c-cells.false in
+          sym (get_or-eq_default a.cells.now 0 {n = a.i * 128 + a.c} (omega arith))
+      | else-i-rows-via-else-i-rows w ↦ let past = w.if-i-rows.false in sym (get_or-eq_default a.cells.now 0 {n = a.i * 128 + a.c} (omega arith))
+    ]
