@@ -8,36 +8,22 @@ ghost use Rattle.records.specs.Algorithm.Kept.{SizesKept};
 use fields::{fill_row, grade, record_at, tag};
 use records::{Fault, Refusal, records_fault, size_fault};
 
-// Writes the m × n cells, a row of n for each fragment.
-fn fill_cells(n: usize, table: &[u8], cells: &mut [u8])
-    requires { length cells.old ≡ fragments table.now * n }
-    ensures { cells.new ≡ unpacked_cells n table.now }
+// Writes the row of n cells, the tag and the grade of each record.
+fn fill(n: usize, table: &[u8], cells: &mut [u8], tags: &mut [u32], grades: &mut [u8])
+    requires cells_len { length cells.old ≡ fragments table.now * n }
+    requires tags_len { length tags.old ≡ fragments table.now }
+    requires grades_len { length grades.old ≡ fragments table.now }
+    ensures cells { cells.new ≡ unpacked_cells n table.now }
+    ensures tags { tags.new ≡ unpacked_tags table.now }
+    ensures grades { grades.new ≡ unpacked_grades table.now }
 {
-    let m = table.len() / 32;
     let mut first = 0;
-    for i in 0..m {
-        fill_row(n, record_at(table, i), &mut cells[first..first + n]);
-        first += n;
-    }
-}
-
-// Writes the m tags.
-fn fill_tags(table: &[u8], tags: &mut [u32])
-    requires { length tags.old ≡ fragments table.now }
-    ensures { tags.new ≡ unpacked_tags table.now }
-{
     for i in 0..tags.len() {
-        tags[i] = tag(record_at(table, i));
-    }
-}
-
-// Writes the m grades.
-fn fill_grades(table: &[u8], grades: &mut [u8])
-    requires { length grades.old ≡ fragments table.now }
-    ensures { grades.new ≡ unpacked_grades table.now }
-{
-    for i in 0..grades.len() {
-        grades[i] = grade(record_at(table, i));
+        let part = record_at(table, i);
+        fill_row(n, part, &mut cells[first..first + n]);
+        first += n;
+        tags[i] = tag(part);
+        grades[i] = grade(part);
     }
 }
 
@@ -60,9 +46,7 @@ fn unpack_sized(
         return Err(Fault::WrongBuffer.at(0));
     }
     records_fault(n, table)?;
-    fill_cells(n, table, cells);
-    fill_tags(table, tags);
-    fill_grades(table, grades);
+    fill(n, table, cells, tags, grades);
     Ok(m)
 }
 

@@ -25,14 +25,10 @@ returns-then-cells-m c =
       | then-cells-m-via-else-cells-m+else-tags-m+then-grades-m w ↦ unpack-grades _ _ _ _ _ _ c.requires w.if-cells-m.false w.if-tags-m.false w.if-grades-m.true
     ])))
 
-pub fill_cells-requires : goal.fill_cells-requires
-fill_cells-requires c = c.if-cells-m.false ∙ ap (λ (k : ℕ). k * c.args.n) (sym (sized-count c.requires))
-
-pub fill_tags-requires : goal.fill_tags-requires
-fill_tags-requires c = c.if-tags-m.false ∙ sym (sized-count c.requires)
-
-pub fill_grades-requires : goal.fill_grades-requires
-fill_grades-requires c = c.if-grades-m.false ∙ sym (sized-count c.requires)
+pub fill-requires : goal.fill-requires
+fill-requires c =
+    let m = sym (sized-count c.requires) in
+    record { cells_len = c.if-cells-m.false ∙ ap (λ (k : ℕ). k * c.args.n) m; tags_len = c.if-tags-m.false ∙ m; grades_len = c.if-grades-m.false ∙ m }
 
 -- the records decide once the lengths are kept
 rest-decides : (c : Else-grades-m)
@@ -49,4 +45,4 @@ returns-in_err-records_fault c =
 pub returns : goal.returns
 returns c =
     let left = unpack-accepts _ c.args.m _ _ _ _ _ (sized-count c.requires) (rest-decides (goal.at.returns c).Else-grades-m) (sym c.in_ok-records_fault.ensures) in
-    record { outcome = left.0; cells = c.fill_cells.ensures ∙ left.1.0; tags = c.fill_tags.ensures ∙ left.1.1.0; grades = c.fill_grades.ensures ∙ left.1.1.1 }
+    record { outcome = left.0; cells = c.fill.ensures.cells ∙ left.1.0; tags = c.fill.ensures.tags ∙ left.1.1.0; grades = c.fill.ensures.grades ∙ left.1.1.1 }
