@@ -9,7 +9,7 @@ ghost use Rattle.counting.specs.Algorithm.Rows.{rows_of};
 ghost use Rattle.counting.specs.Meanings.{ConflictCountsSay};
 
 use masks::{fill_masks, fill_pairs, kept, mask_room};
-use matrix::{all_kept, blank_cells, copy};
+use matrix::{all_kept, blank_cells};
 use records::{Fault, Refusal, records_fault, size_fault};
 
 // Writes the first m numbers of the first m rows of a matrix, 128 to a row.
@@ -18,12 +18,10 @@ fn copy_rows(m: usize, matrix: &[u8], counts: &mut [u8])
     ensures { counts.new ≡ rows_of m matrix.now }
 {
     let mut first = 0;
-    let mut i = 0;
-    while i < m {
+    for i in 0..m {
         let row = i * 128;
-        copy(&matrix[row..row + m], &mut counts[first..first + m]);
+        counts[first..first + m].copy_from_slice(&matrix[row..row + m]);
         first += m;
-        i += 1;
     }
 }
 
