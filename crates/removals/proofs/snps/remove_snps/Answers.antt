@@ -3,22 +3,49 @@
 use Prim.Native.Nat.{ℕ}
 use lib.ListN.{length, length-replicate}
 use mathlib.Core.Path.{ap, ◌∙◌}
-use Rattle.records.proofs.AcceptedLaws.{sized-n, sized-m}
+use native.Mathlib.Omega.{arith}
+use borrow.Author.Rules.{rules}
+use Rattle.records.proofs.AcceptedLaws.{gapless-records, sized-n, sized-m}
+use Rattle.conflicts.specs.Choice.{zeros}
 use Rattle.conflicts.proofs.MarkLaws.{all-kept-part}
 use Rattle.conflicts.proofs.SideLaws.{all-length}
-use native.Mathlib.Omega.{arith}
+use Rattle.masks.proofs.RecordLaws.{kept-letters}
+use Rattle.masks.proofs.TableLaws.{words-masks, words-gapless, words-snp}
+use Rattle.removals.proofs.TableRemovalLaws.{table-answer}
 use Rattle.removals.proofs.snps.remove_snps.Goals as goal
 
-pub slice_bounds-keep-end : goal.slice_bounds-keep-end
-slice_bounds-keep-end c =
-    let e = ap length c.all_kept-keep.ensures ∙ length-replicate {A = ℕ} 128 1 in let h = sized-n c.requires.sizes_kept in omega arith
+pub slice_bounds-cols-end : goal.slice_bounds-cols-end
+slice_bounds-cols-end c =
+    let e = ap length c.all_kept-cols.ensures ∙ length-replicate {A = ℕ} 128 1 in let h = sized-n c.requires.sizes_kept in omega arith
 
-pub slice_bounds-phase_kept-end : goal.slice_bounds-phase_kept-end
-slice_bounds-phase_kept-end c =
+pub slice_bounds-phase-end-2 : goal.slice_bounds-phase-end-2
+slice_bounds-phase-end-2 c =
     let e = ap length c.all_kept-frags.ensures ∙ length-replicate {A = ℕ} 128 1 in let h = sized-m c.requires.sizes_kept in omega arith
 
-pub phase_kept-requires : goal.phase_kept-requires
-phase_kept-requires c =
-    let a = c.args in
+pub snp_keep_marks-count-requires : goal.snp_keep_marks-count-requires
+snp_keep_marks-count-requires c =
     let p = c.requires in
-    record { sizes_kept = p.sizes_kept; gapless_kept = p.gapless_kept; frags_value = all-kept-part a.m _ (sized-m p.sizes_kept) c.all_kept-frags.ensures; keep_len = ap length (all-kept-part a.n _ (sized-n p.sizes_kept) c.all_kept-keep.ensures) ∙ all-length a.n; answer_len = p.answer_len }
+    let kept = gapless-records p.gapless_kept in
+    let are = c.fill_masks.ensures c.args.n (kept-letters kept) in
+    (sized-m p.sizes_kept, sized-n p.sizes_kept, search rules, words-masks p.sizes_kept kept are, words-gapless p.sizes_kept kept are p.gapless_kept, ap length (all-kept-part c.args.n _ (sized-n p.sizes_kept) c.all_kept-cols.ensures) ∙ all-length c.args.n)
+
+pub phase-requires : goal.phase-requires
+phase-requires c =
+    let p = c.requires in (
+      record {
+        few = sized-m p.sizes_kept;
+        narrow = sized-n p.sizes_kept;
+        long = search rules;
+        columns = c.snp_keep_marks-count.auto.keep ∙ ap length (all-kept-part c.args.n _ (sized-n p.sizes_kept) c.all_kept-cols.ensures) ∙ all-length c.args.n;
+        fragments = ap length (all-kept-part c.args.m _ (sized-m p.sizes_kept) c.all_kept-frags.ensures) ∙ all-length c.args.m;
+      },
+      p.answer_len,
+    )
+
+pub returns : goal.returns
+returns c =
+    let p = c.requires in
+    let kept = gapless-records p.gapless_kept in
+    let are = c.fill_masks.ensures c.args.n (kept-letters kept) in
+    let e = c.snp_keep_marks-count.ensures in
+    record { count = e.1 ∙ ap zeros (words-snp p.sizes_kept kept are); answer = table-answer p.sizes_kept kept are e.0 (all-kept-part c.args.m _ (sized-m p.sizes_kept) c.all_kept-frags.ensures) c.phase.ensures }
