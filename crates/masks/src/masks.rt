@@ -64,6 +64,7 @@ fn column_letters(masks: &[Line; 128], c: usize, start: usize) -> (u64, u64)
 {
     let mut a = 0;
     let mut b = 0;
+    // Both letters in one pass: a closure for each word takes half as long again.
     for k in 0..64 {
         let line = masks[start + k];
         a = with_bit(a, k, line.a.has(c));
