@@ -5,9 +5,11 @@ use mathlib.Core.Path.{◌≡◌, refl, sym, ◌∙◌}
 use mathlib.Core.Logic.{inl, inr}
 use mathlib.Core.Bool.{Bool, true, false, not}
 use mathlib.Core.List.{List}
-use Prim.Native.Nat.{ℕ, ◌<◌, ◌≤◌}
+use Prim.Native.Nat.{ℕ, ◌<◌, ◌≤◌, min, max}
+use native.Mathlib.Decide.{dec_lt}
 use native.Mathlib.Omega.{arith}
 use borrow.Author.Tests.{not-true, not-false}
+use mir.Val.{bool_byte}
 use Rattle.below.specs.Below.{◌<?◌, ◌=?◌, nth}
 use Rattle.below.proofs.BelowLaws.{if-true, if-false, =?-eq, =?-refl, same_test}
 use Rattle.below.proofs.SearchLaws.{true-T, false-T}
@@ -24,6 +26,11 @@ own_label_of kept k = if 0 <? nth kept k then k else 255
 
 abbrev pub own_side_of : List ℕ → ℕ → ℕ
 own_side_of kept k = if 0 <? nth kept k then 1 else 0
+
+-- a byte of a test
+pub byte-if : (b : Bool) → bool_byte b ≡ if b then 1 else 0
+byte-if true = refl
+byte-if false = refl
 
 pub begun : (m : ℕ) → m ≤ 128 → (kept : List ℕ) {l₀ s₀ l s : List ℕ} (pair : ℕ → ℕ → Bool) → Remade (own_label_of kept) l₀ l m → Remade (own_side_of kept) s₀ s m
     → State m (marked kept) pair 0 (nth l) (nth s)
@@ -60,17 +67,33 @@ says-no b = record { yes = λ e. absurd (false-T (sym e) tt); no = λ e. b }
 =?-swap a b = same_test (a =? b) (b =? a) (λ t. rw (=?-eq a b t) (=?-refl b)) (λ t. rw (=?-eq b a t) (=?-refl a))
 
 module _ {m i j : ℕ} (few : m ≤ 128) (hij : i < j) (hj : j < m) {l s : ℕ → ℕ} (turn : Bool) (equal : turn ≡ (s i =? s j)) where
-  pub step-up : {l' s' : ℕ → ℕ} → l i < l j → Joined m (l i) (l j) turn l s l' s' → Step m i j true l s l' s'
+  step-up : {l' s' : ℕ → ℕ} → l i < l j → Joined m (l i) (l j) turn l s l' s' → Step m i j true l s l' s'
   step-up lower joins = record { on = λ kept pair links t st. says-yes (join m few kept pair links hij hj t st (inl (refl, refl)) lower equal joins) }
 
-  pub step_down : {l' s' : ℕ → ℕ} → l j < l i → Joined m (l j) (l i) turn l s l' s' → Step m i j true l s l' s'
+  step_down : {l' s' : ℕ → ℕ} → l j < l i → Joined m (l j) (l i) turn l s l' s' → Step m i j true l s l' s'
   step_down lower joins = record { on = λ kept pair links t st. says-yes (join m few kept pair links hij hj t st (inr (refl, refl)) lower (equal ∙ =?-swap (s i) (s j)) joins) }
 
-  pub step_same : l j ≤ l i → l i ≤ l j → Step m i j (not turn) l s l s
-  step_same a b = record {
+  -- two components: that of the higher label is taken in
+  pub step_joined : {lo hi : ℕ} {l' s' : ℕ → ℕ} → (l i ≡ l j → ⊥) → lo ≡ min (l i) (l j) → hi ≡ max (l i) (l j) → Joined m lo hi turn l s l' s' → Step m i j true l s l' s'
+  step_joined {lo} {hi} ne el eh joins =
+      elim (dec_lt (l i) (l j)) [
+        | yes h ↦
+            let a : lo ≡ l i = omega arith in
+            let b : hi ≡ l j = omega arith in
+            step-up h (rw (a, b) at joins)
+        | no h ↦
+            let u : l j < l i = omega arith in
+            let a : lo ≡ l j = omega arith in
+            let b : hi ≡ l i = omega arith in
+            step_down u (rw (a, b) at joins)
+      ]
+
+  -- one component
+  pub step_same : l i ≡ l j → Step m i j (not turn) l s l s
+  step_same same = record {
     on = λ kept pair links t st.
         record {
-          yes = λ e. settled-apart m few kept pair links hij hj t st (omega arith) turn equal (not-true turn e);
-          no = λ e. clash m few kept pair links hij hj t st (omega arith) (=?-eq (s i) (s j) (true-T (sym equal ∙ not-false turn e)));
+          yes = λ e. settled-apart m few kept pair links hij hj t st same turn equal (not-true turn e);
+          no = λ e. clash m few kept pair links hij hj t st same (=?-eq (s i) (s j) (true-T (sym equal ∙ not-false turn e)));
         };
   }

@@ -1,10 +1,9 @@
 -- A list made anew in place from the front.
 -- Assumes nothing.
-use mathlib.Core.Path.{◌≡◌, refl, ◌∙◌}
+use mathlib.Core.Path.{◌≡◌, ◌∙◌}
 use mathlib.Core.List.{List}
 use Prim.Native.Nat.{ℕ, ◌+◌, ◌<◌, ◌≤◌}
 use native.Mathlib.Omega.{arith}
-use native.Mathlib.Nat.{not-suc-le-zero}
 use borrow.Author.Count.{below_more}
 use lib.ListN.{length, set, length-set}
 use lib.Seq.{get_or-set_same, get_or-set_other}
@@ -15,9 +14,6 @@ pub record Remade (f : ℕ → ℕ) (old now : List ℕ) (k : ℕ) : Type 0 wher
   pub sized : length now ≡ length old
   pub done : (i : ℕ) → i < k → nth now i ≡ f i
   pub rest : (i : ℕ) → k ≤ i → nth now i ≡ nth old i
-
-pub sweep-none : (f : ℕ → ℕ) (old : List ℕ) → Remade f old old 0
-sweep-none f old = record { sized = refl; done = λ i lt. absurd (not-suc-le-zero lt); rest = λ i le. refl }
 
 pub sweep-set : {f : ℕ → ℕ} {old : List ℕ} (xs : List ℕ) (k v : ℕ) → Remade f old xs k → k < length xs → v ≡ f k → Remade f old (set xs k v) (k + 1)
 sweep-set {f} xs k v s lt e = record {

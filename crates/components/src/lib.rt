@@ -3,4 +3,4 @@
 
 mod quick_find;
 
-pub use quick_find::components;
+pub use quick_find::Fragments;

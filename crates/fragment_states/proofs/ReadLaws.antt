@@ -1,4 +1,4 @@
--- What is read of a fragment's words and of a side's state.
+-- What is read of a fragment's lines and of a side's state.
 -- Assumes nothing.
 use Rattle.std.specs.Prelude.{if◌then◌else◌}
 use mathlib.Core.Path.{◌≡◌, refl, sym, ap, ap₂, subst, ◌∙◌}
@@ -7,7 +7,8 @@ use mathlib.Core.List.{List}
 use Prim.Native.Nat.{ℕ, zero, suc, ◌-◌, ◌^◌, ◌≤◌, ◌<◌}
 use native.Mathlib.Nat.{le_refl}
 use native.Mathlib.Omega.{arith}
-use lib.Dec.{T}
+use lib.Dec.{T, eqb}
+use mir.Val.{bool_byte}
 use Rattle.below.specs.Below.{bit, ◌=?◌, ◌<?◌, ◌and◌, ◌or◌, isnt, first_below, end_below}
 use Rattle.below.proofs.BelowLaws.{left-of, right_of, <?-lt, first_below-at}
 use Rattle.below.proofs.SearchLaws.{T_true, <?-true}
@@ -82,28 +83,33 @@ pub state-none : (g : Grid) (s : ℕ) → s ≡ 0 → 0 ≡ state_reach_of g s
 unfolding state_reach_of
 state-none g s e = rw e
 
-pub state-some : (m n : ℕ) (words : List ℕ) (s : ℕ) {line : Line} {r : ℕ} → 0 < s → line ≡ line_at words (s - 1) → r ≡ calls_end_of n (code_in line) → r ≡ state_reach_of (words_grid m n words) s
+pub state-some : (m n : ℕ) (lines : List Line) (s : ℕ) {r : ℕ} → 0 < s → r ≡ calls_end_of n (code_in (line_at lines (s - 1))) → r ≡ state_reach_of (words_grid m n lines) s
 unfolding reach state_reach_of words_grid
-state-some m n words s h is e = e ∙ ap (λ (l : Line). calls_end_of n (code_in l)) is ∙ ap (state_reach_of (words_grid m n words)) (sym (suc-of s h))
+state-some m n lines s h e = e ∙ ap (state_reach_of (words_grid m n lines)) (sym (suc-of s h))
 
--- ---- agreement by the words of the fragments
+-- ---- agreement by the lines of the fragments
 
-module _ (words : List ℕ) (s i : ℕ) where
-  pub join-none : s ≡ 0 → 1 ≡ bit (words_join words s i)
+-- a byte of a test
+pub byte-bit : (b : Bool) → bool_byte b ≡ bit b
+byte-bit true = refl
+byte-bit false = refl
+
+module _ (lines : List Line) (s i : ℕ) where
+  pub join-none : s ≡ 0 → eqb s 0 ≡ words_join lines s i
   unfolding words_join
   join-none e = rw e
 
-  pub join-some : {b : Bool} → 0 < s → b ≡ words_agree words (s - 1) i → b ≡ words_join words s i
+  pub join-some : {b : Bool} → 0 < s → b ≡ words_agree lines (s - 1) i → b ≡ words_join lines s i
   unfolding words_join
-  join-some h is = is ∙ ap (λ (x : ℕ). words_join words x i) (sym (suc-of s h))
+  join-some h is = is ∙ ap (λ (x : ℕ). words_join lines x i) (sym (suc-of s h))
 
--- the words of a matrix say which of its fragments agree
-words-agree : (g : Grid) (words : List ℕ) (p q : ℕ) → Masks g words → p < g.m → q < g.m → words_agree words p q ≡ agree g p q
+-- the lines of a matrix say which of its fragments agree
+words-agree : (g : Grid) (lines : List Line) (p q : ℕ) → Masks g lines → p < g.m → q < g.m → words_agree lines p q ≡ agree g p q
 unfolding words_agree agree conflict conflict_on
-words-agree g words p q masks hp hq =
+words-agree g lines p q masks hp hq =
     ap isnt (ap occupied (ap₂ conflict_places (line-at g p masks hp) (line-at g q masks hq) ∙ lines-conflict g p q hp hq) ∙ occupied-below g.n _ masks.narrow)
 
-pub words-join : (g : Grid) (words : List ℕ) (s i : ℕ) → Masks g words → s ≤ i → i < g.m → words_join words s i ≡ can_join g s i
+pub words-join : (g : Grid) (lines : List Line) (s i : ℕ) → Masks g lines → s ≤ i → i < g.m → words_join lines s i ≡ can_join g s i
 unfolding words_join can_join
-words-join g words zero i masks le h = refl
-words-join g words (suc j) i masks le h = words-agree g words j i masks (omega arith) h
+words-join g lines zero i masks le h = refl
+words-join g lines (suc j) i masks le h = words-agree g lines j i masks (omega arith) h

@@ -7,7 +7,6 @@ ghost use Rattle.places.specs.Algorithm.Places.{places_where};
 ghost use Rattle.masks.specs.Algorithm.Masks.{code_in, words_grid};
 ghost use Rattle.fragment_states.specs.Algorithm.Fragments.{Begins, Between, state_reach_of, words_agree, words_join};
 
-use masks::line_at;
 use places::{Line, Places};
 
 // Of the first n columns, those that a line calls.
@@ -19,68 +18,53 @@ pub fn calls_below(n: usize, line: Line) -> Places
 }
 
 // One past the last of the first n columns that a line calls, and 0 where it calls none.
-fn line_end(n: usize, line: Line) -> usize
+fn line_end(n: usize, line: Line) -> u8
     requires { n ≤ 128 }
-    ensures { (result ≡ calls_end_of n (code_in line)) × (result ≤ n) }
+    ensures { result ≡ calls_end_of n (code_in line) }
 {
-    calls_below(n, line).end() as usize
+    calls_below(n, line).end() as u8
 }
 
 // How far a side's state reaches.
-fn state_reach(n: usize, masks: &[u64], s: usize) -> u8
-    requires { (length masks.now ≡ 512) × (n ≤ 128) × (s ≤ 128) }
+fn state_reach(n: usize, masks: &[Line; 128], s: usize) -> u8
+    requires { (n ≤ 128) × (s ≤ 128) }
     ensures { (m : ℕ) → result ≡ state_reach_of (words_grid m n masks.now) s }
 {
-    if s == 0 {
-        return 0;
-    }
-    line_end(n, line_at(masks, s - 1)) as u8
+    if s == 0 { 0 } else { line_end(n, masks[s - 1]) }
 }
 
 // The reaches of the states.
-pub fn fill_reaches(m: usize, n: usize, masks: &[u64], reaches: &mut [u8])
-    requires { (m ≤ 128) × (n ≤ 128) × (length masks.now ≡ 512) × (length reaches.old ≡ 129) }
+pub fn fill_reaches(m: usize, n: usize, masks: &[Line; 128], reaches: &mut [u8])
+    requires { (m ≤ 128) × (n ≤ 128) × (length reaches.old ≡ 129) }
     ensures { Begins (state_reach_of (words_grid m n masks.now)) (m + 1) reaches.new }
 {
-    let states = m + 1;
-    let mut s = 0;
-    while s < states {
+    for s in 0..m + 1 {
         reaches[s] = state_reach(n, masks, s);
-        s += 1;
     }
 }
 
 // Whether the fragments at positions p and q agree: there is no column on which they conflict.
-fn positions_agree(masks: &[u64], p: usize, q: usize) -> bool
-    requires { (length masks.now ≡ 512) × (p < 128) × (q < 128) }
+fn positions_agree(masks: &[Line; 128], p: usize, q: usize) -> bool
+    requires { (p < 128) × (q < 128) }
     ensures { result ≡ words_agree masks.now p q }
 {
-    !line_at(masks, p).conflicts(line_at(masks, q)).any()
+    !masks[p].conflicts(masks[q]).any()
 }
 
 // 1 where the fragment at position i agrees with a side's state, and 0 where not.
-fn may_join(masks: &[u64], s: usize, i: usize) -> u8
-    requires { (length masks.now ≡ 512) × (s ≤ i) × (i < 128) }
+fn may_join(masks: &[Line; 128], s: usize, i: usize) -> u8
+    requires { (s ≤ i) × (i < 128) }
     ensures { result ≡ bit (words_join masks.now s i) }
 {
-    if s == 0 {
-        return 1;
-    }
-    if positions_agree(masks, s - 1, i) {
-        return 1;
-    }
-    0
+    u8::from(s == 0 || positions_agree(masks, s - 1, i))
 }
 
 // The states from `first` on that the fragment at position i agrees with, by the masks of the fragments.
-pub fn fill_agreements(masks: &[u64], first: usize, i: usize, agrees: &mut [u8])
-    requires { (length masks.now ≡ 512) × (i < 128) × (length agrees.old ≡ 129) }
+pub fn fill_agreements(masks: &[Line; 128], first: usize, i: usize, agrees: &mut [u8])
+    requires { (i < 128) × (length agrees.old ≡ 129) }
     ensures { Between (λ s. bit (words_join masks.now s i)) first (i + 1) agrees.new }
 {
-    let states = i + 1;
-    let mut s = first;
-    while s < states {
+    for s in first..i + 1 {
         agrees[s] = may_join(masks, s, i);
-        s += 1;
     }
 }

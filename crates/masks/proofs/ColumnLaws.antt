@@ -1,4 +1,4 @@
--- The words of a matrix's columns, and the matrix that words are those of.
+-- The lines of a matrix's columns, and the matrix that lines are those of.
 -- Assumes nothing.
 use Rattle.std.specs.Prelude.{if◌then◌else◌}
 use mathlib.Core.Path.{◌≡◌, refl, ap, ap₂, ◌∙◌}
@@ -31,39 +31,39 @@ swapped true false x = refl
 swapped false true x = refl
 swapped false false x = refl
 
-module _ (g : Grid) {words : List ℕ} (masks : Masks g words) where
+module _ (g : Grid) {lines : List Line} (masks : Masks g lines) where
   -- a place of line i
-  pub has-a : (i c : ℕ) → i < 128 → c < 128 → has_place (line_at words i).a c ≡ has_letter g 1 i c
+  pub has-a : (i c : ℕ) → i < 128 → c < 128 → has_place (line_at lines i).a c ≡ has_letter g 1 i c
   unfolding line_of
   has-a i c h l = ap (λ (x : Line). has_place x.a c) (line-is g i masks h) ∙ has-where (has_letter g 1 i) c l
 
-  pub has-b : (i c : ℕ) → i < 128 → c < 128 → has_place (line_at words i).b c ≡ has_letter g 2 i c
+  pub has-b : (i c : ℕ) → i < 128 → c < 128 → has_place (line_at lines i).b c ≡ has_letter g 2 i c
   unfolding line_of
   has-b i c h l = ap (λ (x : Line). has_place x.b c) (line-is g i masks h) ∙ has-where (has_letter g 2 i) c l
 
   -- a column's words, each of 64 fragments
   module _ (c : ℕ) (h : c < 128) where
-    half-a : (start half : ℕ) {w : ℕ} → start ≡ half * 64 → half ≤ 1 → w ≡ word_of 64 (λ b. has_place (line_at words (start + b)).a c) → w ≡ half_word (has_letter (transposed g) 1 c) half
+    half-a : (start half : ℕ) {w : ℕ} → start ≡ half * 64 → half ≤ 1 → w ≡ word_of 64 (λ b. has_place (line_at lines (start + b)).a c) → w ≡ half_word (has_letter (transposed g) 1 c) half
     unfolding half_word has_letter transposed
     half-a start half e l is = is ∙ word-ext 64 _ _ (λ b u. has-a (start + b) c (omega arith) h ∙ ap (λ (i : ℕ). i <? g.m and c <? g.n and g.cell i c =? 1) (omega arith) ∙ swapped _ _ _)
 
-    half-b : (start half : ℕ) {w : ℕ} → start ≡ half * 64 → half ≤ 1 → w ≡ word_of 64 (λ b. has_place (line_at words (start + b)).b c) → w ≡ half_word (has_letter (transposed g) 2 c) half
+    half-b : (start half : ℕ) {w : ℕ} → start ≡ half * 64 → half ≤ 1 → w ≡ word_of 64 (λ b. has_place (line_at lines (start + b)).b c) → w ≡ half_word (has_letter (transposed g) 2 c) half
     unfolding half_word has_letter transposed
     half-b start half e l is = is ∙ word-ext 64 _ _ (λ b u. has-b (start + b) c (omega arith) h ∙ ap (λ (i : ℕ). i <? g.m and c <? g.n and g.cell i c =? 2) (omega arith) ∙ swapped _ _ _)
 
-    pub column-is : {a1 a2 b1 b2 : ℕ} → a1 ≡ word_of 64 (λ b. has_place (line_at words (0 + b)).a c) → a2 ≡ word_of 64 (λ b. has_place (line_at words (64 + b)).a c)
-        → b1 ≡ word_of 64 (λ b. has_place (line_at words (0 + b)).b c) → b2 ≡ word_of 64 (λ b. has_place (line_at words (64 + b)).b c)
+    pub column-is : {a1 a2 b1 b2 : ℕ} → a1 ≡ word_of 64 (λ b. has_place (line_at lines (0 + b)).a c) → a2 ≡ word_of 64 (λ b. has_place (line_at lines (64 + b)).a c)
+        → b1 ≡ word_of 64 (λ b. has_place (line_at lines (0 + b)).b c) → b2 ≡ word_of 64 (λ b. has_place (line_at lines (64 + b)).b c)
         → line (places a1 a2) (places b1 b2) ≡ line_of (transposed g) c
     unfolding line_of places_where
     column-is x y z w =
         ap₂ line (ap₂ places (half-a 0 0 (omega arith) (omega arith) x) (half-a 64 1 (omega arith) (omega arith) y))
         (ap₂ places (half-b 0 0 (omega arith) (omega arith) z) (half-b 64 1 (omega arith) (omega arith) w))
 
-  -- ---- the matrix of the words
+  -- ---- the matrix of the lines
 
   module _ (codes : (i c : ℕ) → i < g.m → c < g.n → g.cell i c ≤ 2) where
     -- each code
-    pub words-cell : (i c : ℕ) → i < g.m → c < g.n → code_in (line_at words i) c ≡ g.cell i c
+    pub words-cell : (i c : ℕ) → i < g.m → c < g.n → code_in (line_at lines i) c ≡ g.cell i c
     unfolding code_in has_letter ◌and◌
     words-cell i c hi hc =
         let few = masks.few in

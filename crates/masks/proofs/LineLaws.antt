@@ -1,21 +1,22 @@
 -- What the words of a matrix say of two of its lines.
 -- Assumes nothing.
-use mathlib.Core.Path.{◌≡◌, refl, sym, ap, ap₂, ◌∙◌}
+use mathlib.Core.Path.{◌≡◌, sym, ap, ap₂, ◌∙◌}
 use mathlib.Core.Bool.{Bool, false}
 use mathlib.Core.List.{List}
-use Prim.Native.Nat.{ℕ, ◌+◌, ◌*◌, ◌/◌, ◌%◌, ◌≤◌, ◌<◌}
+use Prim.Native.Nat.{ℕ, ◌+◌, ◌≤◌, ◌<◌}
 use native.Mathlib.Omega.{arith}
-use lib.ListN.{length, set}
-use Rattle.below.specs.Below.{◌=?◌, ◌and◌, ◌or◌, count_below, nth}
-use Rattle.below.proofs.BelowLaws.{get_or-tab}
+use borrow.Author.Count.{below_more}
+use lib.ListN.{length, set, length-set}
+use lib.Seq.{get_or-set_same, get_or-set_other, ext_get_or}
+use Rattle.below.specs.Below.{◌=?◌, ◌and◌, ◌or◌, count_below, tab}
+use Rattle.below.proofs.BelowLaws.{length-tab, get_or-tab}
 use Rattle.below.proofs.SearchLaws.{<?-true, <?-false}
-use Rattle.below.proofs.FillLaws.{filled-four, filled-all}
 use Rattle.conflicts.specs.Grid.{Grid, calls_conflict, conflict_on}
 use Rattle.places.specs.declared.lines.Line.{Line}
 use Rattle.places.specs.declared.places.Places.{Places}
 use Rattle.places.specs.Algorithm.Words.{half_word}
 use Rattle.places.specs.Algorithm.Places.{places_where, both_places, either_of, size, conflict_places, agree_places, conflict_size}
-use Rattle.masks.specs.Algorithm.Masks.{has_letter, line_of, mask_word, mask_words, line_at, Masks, WordsBegun}
+use Rattle.masks.specs.Algorithm.Masks.{has_letter, line_of, mask_words, no_letters, line_at, Masks, WordsBegun}
 use Rattle.places.proofs.WordLaws.{word_none}
 use Rattle.places.proofs.PlaceLaws.{places, where-ext, up_to, both_below, either-below, some_below, size_below}
 
@@ -41,41 +42,33 @@ line-none g i l = ap₂ line (none_of 1) (none_of 2)
     none_of : (letter : ℕ) → places 0 0 ≡ places_where (has_letter g letter i)
     none_of letter = where-none _ (λ c h. no-letter g letter i c l)
 
-pub word-is : (g : Grid) (k letter i h : ℕ) → 1 + k / 2 % 2 ≡ letter → k / 4 ≡ i → k % 2 ≡ h → half_word (has_letter g letter i) h ≡ mask_word g k
-word-is g k letter i h el ei eh = rw (← el, ← ei, ← eh) refl
-
 -- line i of the words is fragment i's
-pub line-is : (g : Grid) (i : ℕ) {words : List ℕ} → Masks g words → i < 128 → line_at words i ≡ line_of g i
-unfolding line_at line_of places_where mask_words
-line-is g i {words} masks h =
-    let at : (k letter half : ℕ) → k < 512 → 1 + k / 2 % 2 ≡ letter → k / 4 ≡ i → k % 2 ≡ half → nth words k ≡ half_word (has_letter g letter i) half
-    = λ k letter half l el ei eh. rw masks.are (get_or-tab 512 (mask_word g) k 0 l ∙ sym (word-is g k letter i half el ei eh)) in
-    ap₂ line (ap₂ places (at (i * 4) 1 0 (omega arith) (omega arith) (omega arith) (omega arith)) (at (i * 4 + 1) 1 1 (omega arith) (omega arith) (omega arith) (omega arith)))
-    (ap₂ places (at (i * 4 + 2) 2 0 (omega arith) (omega arith) (omega arith) (omega arith)) (at (i * 4 + 3) 2 1 (omega arith) (omega arith) (omega arith) (omega arith)))
+pub line-is : (g : Grid) (i : ℕ) {lines : List Line} → Masks g lines → i < 128 → line_at lines i ≡ line_of g i
+unfolding mask_words
+line-is g i masks h = rw masks.are (get_or-tab 128 (line_of g) i no_letters h)
 
 -- … of a fragment of the matrix
-pub line-at : (g : Grid) (i : ℕ) {words : List ℕ} → Masks g words → i < g.m → line_at words i ≡ line_of g i
+pub line-at : (g : Grid) (i : ℕ) {lines : List Line} → Masks g lines → i < g.m → line_at lines i ≡ line_of g i
 line-at g i masks h = let few = masks.few in line-is g i masks (omega arith)
 
--- line i more
-pub words_more : (g : Grid) (i : ℕ) {x : Line} {words : List ℕ} → i < 128 → x ≡ line_of g i → WordsBegun g i words
-    → WordsBegun g (i + 1) (set (set (set (set words (i * 4) x.a.low) (i * 4 + 1) x.a.high) (i * 4 + 2) x.b.low) (i * 4 + 3) x.b.high)
-unfolding line_of places_where
-words_more g i {x} {words} h e begun =
-    let f = filled-four 512 (mask_word g) (i * 4) ((i + 1) * 4) words _ _ _ _ (record { within = omega arith; sized = begun.sized; done = begun.done }) (omega arith) (omega arith)
-    (ap (λ (l : Line). l.a.low) e ∙ word-is g (i * 4) 1 i 0 (omega arith) (omega arith) (omega arith))
-    (ap (λ (l : Line). l.a.high) e ∙ word-is g (i * 4 + 1) 1 i 1 (omega arith) (omega arith) (omega arith))
-    (ap (λ (l : Line). l.b.low) e ∙ word-is g (i * 4 + 2) 2 i 0 (omega arith) (omega arith) (omega arith))
-    (ap (λ (l : Line). l.b.high) e ∙ word-is g (i * 4 + 3) 2 i 1 (omega arith) (omega arith) (omega arith)) in
-    record { sized = f.sized; done = f.done }
-
--- no line yet, and all lines
-pub words-none : (g : Grid) {words : List ℕ} → length words ≡ 512 → WordsBegun g 0 words
+-- no line yet, one line more, and all lines
+pub words-none : (g : Grid) {lines : List Line} → length lines ≡ 128 → WordsBegun g 0 lines
 words-none g e = record { sized = e; done = λ k h. absurd (omega arith) }
 
-pub words-all : (g : Grid) (i : ℕ) {words : List ℕ} → i ≤ 128 → 128 ≤ i → WordsBegun g i words → words ≡ mask_words g
+pub words_more : (g : Grid) (i : ℕ) {x : Line} {lines : List Line} → i < 128 → x ≡ line_of g i → WordsBegun g i lines → WordsBegun g (i + 1) (set lines i x)
+words_more g i {x} {lines} h e begun =
+    let s = begun.sized in
+    record {
+      sized = simp length-set s;
+      done = below_more (λ (k : ℕ). line_at (set lines i x) k ≡ line_of g k) i (λ k l. get_or-set_other lines i k x no_letters (λ q. omega arith) ∙ begun.done k l)
+          (get_or-set_same lines i x no_letters (omega arith) ∙ e);
+    }
+
+pub words-all : (g : Grid) {i : ℕ} {lines : List Line} → 128 ≤ i → WordsBegun g i lines → lines ≡ mask_words g
 unfolding mask_words
-words-all g i {words} l h begun = filled-all 512 (mask_word g) (i * 4) words (record { within = omega arith; sized = begun.sized; done = begun.done }) (omega arith)
+words-all g {i} {lines} all begun =
+    ext_get_or no_letters lines (tab 128 (line_of g)) (begun.sized ∙ sym (length-tab 128 (line_of g)))
+    (λ k h. let s = begun.sized in let l : k < 128 = omega arith in begun.done k (omega arith) ∙ sym (get_or-tab 128 (line_of g) k no_letters l))
 
 -- ---- two lines
 
@@ -104,8 +97,8 @@ module _ (g : Grid) (i j : ℕ) (hi : i < g.m) (hj : j < g.m) where
   lines-agree = ap₂ either_of (meet 1 1) (meet 2 2) ∙ either-below g.n _ _
 
 -- the number of conflicts on the columns that pass a test
-pub conflicts-where : (g : Grid) (p : ℕ → Bool) (i j : ℕ) {words : List ℕ} → Masks g words → i < g.m → j < g.m
-    → conflict_size (places_where p) (line_at words i) (line_at words j) ≡ count_below g.n (λ c. p c and conflict_on g c i j)
+pub conflicts-where : (g : Grid) (p : ℕ → Bool) (i j : ℕ) {lines : List Line} → Masks g lines → i < g.m → j < g.m
+    → conflict_size (places_where p) (line_at lines i) (line_at lines j) ≡ count_below g.n (λ c. p c and conflict_on g c i j)
 unfolding conflict_size conflict_on
 conflicts-where g p i j masks hi hj =
     ap (λ (q : Places). size (both_places (places_where p) q)) (ap₂ conflict_places (line-at g i masks hi) (line-at g j masks hj) ∙ lines-conflict g i j hi hj)

@@ -80,34 +80,34 @@ and_comm true false = refl
 and_comm false true = refl
 and_comm false false = refl
 
-module _ (words : List ℕ) (keep : Places) (frags : List ℕ) where
-  pub number-back : (i j : ℕ) → pair_number_of words keep frags i j ≡ pair_number_of words keep frags j i
+module _ (lines : List Line) (keep : Places) (frags : List ℕ) where
+  pub number-back : (i j : ℕ) → pair_number_of lines keep frags i j ≡ pair_number_of lines keep frags j i
   unfolding pair_number_of
-  number-back i j = ap₂ (λ (b : Bool) (k : ℕ). if b then k else 0) (and_comm (marked frags i) (marked frags j)) (size-comm keep (line_at words i) (line_at words j))
+  number-back i j = ap₂ (λ (b : Bool) (k : ℕ). if b then k else 0) (and_comm (marked frags i) (marked frags j)) (size-comm keep (line_at lines i) (line_at lines j))
 
   -- the number at place k
   abbrev entry : ℕ → ℕ
-  entry k = pair_number_of words keep frags (k / 128) (k % 128)
+  entry k = pair_number_of lines keep frags (k / 128) (k % 128)
 
-  pub matrix-is : {matrix : List ℕ} → Numbered (pair_number_of words keep frags) 16384 matrix → matrix ≡ pair_matrix words keep frags
+  pub matrix-is : {matrix : List ℕ} → Numbered (pair_number_of lines keep frags) 16384 matrix → matrix ≡ pair_matrix lines keep frags
   unfolding pair_matrix
   matrix-is {matrix} w = filled-all 16384 entry 16384 matrix (record { within = omega arith; sized = w.long; done = w.done }) (omega arith)
 
-  pub matrix-at : (i j : ℕ) → i < 128 → j < 128 → get_or (pair_matrix words keep frags) (i * 128 + j) 0 ≡ pair_number_of words keep frags i j
+  pub matrix-at : (i j : ℕ) → i < 128 → j < 128 → get_or (pair_matrix lines keep frags) (i * 128 + j) 0 ≡ pair_number_of lines keep frags i j
   unfolding pair_matrix
   matrix-at i j hi hj =
       let p : (i * 128 + j) / 128 ≡ i = omega arith in
       let q : (i * 128 + j) % 128 ≡ j = omega arith in
-      get_or-tab 16384 entry (i * 128 + j) 0 (omega arith) ∙ ap₂ (pair_number_of words keep frags) p q
+      get_or-tab 16384 entry (i * 128 + j) 0 (omega arith) ∙ ap₂ (pair_number_of lines keep frags) p q
 
 -- ---- what the numbers say
 
-module _ {g : Grid} {cols words : List ℕ} {keep : Places} (by : Compared g cols words keep) (frags : List ℕ) (i j : ℕ) (hi : i < g.m) (hj : j < g.m) where
-  size_counts : conflict_size keep (line_at words i) (line_at words j) ≡ conflict_count_of g cols i j
+module _ {g : Grid} {cols : List ℕ} {lines : List Line} {keep : Places} (by : Compared g cols lines keep) (frags : List ℕ) (i j : ℕ) (hi : i < g.m) (hj : j < g.m) where
+  size_counts : conflict_size keep (line_at lines i) (line_at lines j) ≡ conflict_count_of g cols i j
   unfolding conflict_count_of
   size_counts = rw by.columns (conflicts-where g (marked cols) i j by.masks hi hj)
 
   -- the number of two fragments that are kept
-  pub number-kept : T (marked frags i) → T (marked frags j) → pair_number_of words keep frags i j ≡ conflict_count_of g cols i j
+  pub number-kept : T (marked frags i) → T (marked frags j) → pair_number_of lines keep frags i j ≡ conflict_count_of g cols i j
   unfolding pair_number_of ◌and◌
   number-kept ki kj = rw (T_true (marked frags i) ki, T_true (marked frags j) kj) size_counts

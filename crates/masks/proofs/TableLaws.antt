@@ -1,8 +1,8 @@
--- The matrix of a table's words: it has the removals of the table's bytes, it is gapless where the table is, and its fragments rise by start.
+-- The matrix of a table's lines: it has the removals of the table's bytes, it is gapless where the table is, and its fragments rise by start.
 -- Assumes nothing.
 use mathlib.Core.Path.{◌≡◌, sym, ap, ap₂, subst, ◌∙◌}
 use mathlib.Core.List.{List}
-use Prim.Native.Nat.{ℕ, ◌+◌, ◌*◌, ◌/◌, ◌%◌, ◌≤◌, ◌<◌}
+use Prim.Native.Nat.{ℕ, ◌≤◌, ◌<◌}
 use native.Mathlib.Decide.{dec_lt}
 use native.Mathlib.Omega.{arith}
 use lib.Dec.{T}
@@ -24,20 +24,21 @@ use Rattle.conflicts.proofs.GapLaws.{gapless-table}
 use Rattle.conflicts.proofs.SameLaws.{snp-conflicts, fragment-conflicts}
 use Rattle.conflicts.proofs.AlikeLaws.{gapless-cells}
 use Rattle.matrix.specs.Algorithm.Matrix.{Gapless, Rising}
-use Rattle.places.specs.Algorithm.Words.{half_word}
-use Rattle.places.proofs.WordLaws.{word-ext}
-use Rattle.masks.specs.Algorithm.Masks.{has_letter, mask_words, line_at, Masks, code_in, words_grid}
+use Rattle.places.specs.declared.lines.Line.{Line}
+use Rattle.places.proofs.PlaceLaws.{where-ext}
+use Rattle.masks.specs.Algorithm.Masks.{has_letter, line_of, mask_words, line_at, Masks, code_in, words_grid}
+use Rattle.masks.proofs.LineLaws.{line}
 use Rattle.masks.proofs.ColumnLaws.{words-cell}
 
-module _ {n m : ℕ} {table words : List ℕ} (sized : SizesKept n m table) (kept : RecordsKept n table) (are : words ≡ mask_words (grid_of n table)) where
+module _ {n m : ℕ} {table : List ℕ} {lines : List Line} (sized : SizesKept n m table) (kept : RecordsKept n table) (are : lines ≡ mask_words (grid_of n table)) where
   sound : (i : ℕ) → i < fragments table → Sound n (record_bytes_at table i)
   sound i h = accepted-sound n table _ _ kept.kept i h
 
   few : fragments table ≤ 128
   few = let e = sized-count sized in let h = sized-m sized in omega arith
 
-  -- the words are those of the table
-  pub table-masks : Masks (grid_of n table) words
+  -- the lines are those of the table
+  pub table-masks : Masks (grid_of n table) lines
   unfolding grid_of
   table-masks = record { few = few; narrow = sized-n sized; are = are }
 
@@ -47,21 +48,21 @@ module _ {n m : ℕ} {table words : List ℕ} (sized : SizesKept n m table) (kep
   abbrev weight : ℕ → ℕ
   weight i = weight_of (grade_of (record_bytes_at table i))
 
-  -- the matrix of the words, by the number of records
+  -- the matrix of the lines, by the number of records
   abbrev counted : Grid
-  counted = words_grid (fragments table) n words
+  counted = words_grid (fragments table) n lines
 
-  grid-is : words_grid m n words ≡ counted
-  grid-is = ap (λ (k : ℕ). words_grid k n words) (sym (sized-count sized))
+  grid-is : words_grid m n lines ≡ counted
+  grid-is = ap (λ (k : ℕ). words_grid k n lines) (sym (sized-count sized))
 
   small : (i c : ℕ) → i < fragments table → cell i c ≤ 2
   small i c hi = sound-row-small n (record_bytes_at table i) (sound i hi) c
 
-  same : (i c : ℕ) → i < fragments table → c < n → code_in (line_at words i) c ≡ cell i c
+  same : (i c : ℕ) → i < fragments table → c < n → code_in (line_at lines i) c ≡ cell i c
   unfolding grid_of
   same i c hi hc = words-cell (grid_of n table) table-masks (λ i c hi hc. small i c hi) i c hi hc
 
-  conflicts-same : (i j c : ℕ) → i < fragments table → j < fragments table → c < n → calls_conflict (code_in (line_at words i) c) (code_in (line_at words j) c) ≡ calls_conflict (cell i c) (cell j c)
+  conflicts-same : (i j c : ℕ) → i < fragments table → j < fragments table → c < n → calls_conflict (code_in (line_at lines i) c) (code_in (line_at lines j) c) ≡ calls_conflict (cell i c) (cell j c)
   conflicts-same i j c hi hj hc = ap₂ calls_conflict (same i c hi hc) (same j c hj hc)
 
   letter-same : (letter i c : ℕ) → has_letter (grid_of n table) letter i c ≡ has_letter counted letter i c
@@ -74,27 +75,27 @@ module _ {n m : ℕ} {table words : List ℕ} (sized : SizesKept n m table) (kep
     ]
   ]
 
-  pub words-masks : Masks (words_grid m n words) words
-  unfolding words_grid mask_words half_word
+  pub words-masks : Masks (words_grid m n lines) lines
+  unfolding words_grid mask_words line_of
   words-masks = record {
     few = sized-m sized;
     narrow = sized-n sized;
-    are = are ∙ tab-ext 512 _ _ (λ k h. word-ext 64 _ _ (λ b l. letter-same (1 + k / 2 % 2) (k / 4) (k % 2 * 64 + b))) ∙ ap mask_words (sym grid-is);
+    are = are ∙ tab-ext 128 _ _ (λ i h. ap₂ line (where-ext _ _ (λ c l. letter-same 1 i c)) (where-ext _ _ (λ c l. letter-same 2 i c))) ∙ ap mask_words (sym grid-is);
   }
 
-  pub words-snp : snp_keep_marks_of (words_grid m n words) ≡ snp_keep_marks_of (grid_of n table)
+  pub words-snp : snp_keep_marks_of (words_grid m n lines) ≡ snp_keep_marks_of (grid_of n table)
   unfolding words_grid grid_of with_rows
   words-snp = ap snp_keep_marks_of grid-is ∙ snp-conflicts counted cell weight conflicts-same
 
-  pub words-fragment : fragment_keep_marks_of (words_grid m n words) ≡ fragment_keep_marks_of (grid_of n table)
+  pub words-fragment : fragment_keep_marks_of (words_grid m n lines) ≡ fragment_keep_marks_of (grid_of n table)
   unfolding words_grid grid_of with_rows
   words-fragment = ap fragment_keep_marks_of grid-is ∙ fragment-conflicts counted cell weight conflicts-same
 
-  words-gapless-as : gapless (words_grid m n words) ≡ gapless (grid_of n table)
+  words-gapless-as : gapless (words_grid m n lines) ≡ gapless (grid_of n table)
   unfolding words_grid grid_of with_rows
   words-gapless-as = ap gapless grid-is ∙ gapless-cells counted cell weight same
 
-  pub words-gapless : GaplessKept n table → Gapless (words_grid m n words)
+  pub words-gapless : GaplessKept n table → Gapless (words_grid m n lines)
   unfolding words_grid
   words-gapless gaps = record {
     no_gap = subst T (sym words-gapless-as) (gapless-table n table sound (accepted-gapless gaps));
@@ -102,10 +103,10 @@ module _ {n m : ℕ} {table words : List ℕ} (sized : SizesKept n m table) (kep
   }
 
   -- a fragment's first call is at its record's start
-  start_is : (p : ℕ) → p < fragments table → calls_start_of n (λ c. code_in (line_at words p) c) ≡ start_at table p
+  start_is : (p : ℕ) → p < fragments table → calls_start_of n (λ c. code_in (line_at lines p) c) ≡ start_at table p
   start_is p h = (calls_same n _ (code_at (record_bytes_at table p)) (λ c l. same p c h l)).0 ∙ sound-row-start n (record_bytes_at table p) (sound p h)
 
-  pub words-rising : Rising (words_grid m n words)
+  pub words-rising : Rising (words_grid m n lines)
   unfolding words_grid
   words-rising = record {
     rises = λ p q pq qm.

@@ -13,10 +13,8 @@ fn mark_word(marks: &[u8], start: usize) -> u64
     ensures { result ≡ word_of 64 (λ b. marked marks.now (start + b)) }
 {
     let mut word = 0;
-    let mut b = 0;
-    while b < 64 {
+    for b in 0..64 {
         word = with_bit(word, b, 0 < byte(marks, start + b));
-        b += 1;
     }
     word
 }

@@ -6,5 +6,5 @@ mod masks;
 mod pairs;
 
 pub use keep::kept;
-pub use masks::{fill_columns, fill_masks, line_at, mask_room};
+pub use masks::{NO_LETTERS, fill_columns, fill_masks, mask_room};
 pub use pairs::fill_pairs;

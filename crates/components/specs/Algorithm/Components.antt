@@ -5,12 +5,14 @@ use Rattle.below.specs.Below.{nth, ◌and◌, isnt, tab}
 use Rattle.conflicts.specs.Blocks.{Chain, lowest}
 use Rattle.conflicts.specs.Choice.{marked}
 use Rattle.places.specs.declared.places.Places.{Places}
+use Rattle.places.specs.declared.lines.Line.{Line}
 use Rattle.places.specs.Algorithm.Places.{conflict_kept_in}
 use Rattle.masks.specs.Algorithm.Masks.{line_at}
+use Rattle.components.specs.declared.quick_find.Fragments.{Fragments}
 
--- fragments i and j are kept and conflict on a kept column, by their words
-unfoldable pub related : List ℕ → Places → List ℕ → ℕ → ℕ → Bool
-related words keep keep_frags i j = marked keep_frags i and marked keep_frags j and conflict_kept_in keep (line_at words i) (line_at words j)
+-- fragments i and j are kept and conflict on a kept column, by their lines
+unfoldable pub related : List Line → Places → List ℕ → ℕ → ℕ → Bool
+related lines keep keep_frags i j = marked keep_frags i and marked keep_frags j and conflict_kept_in keep (line_at lines i) (line_at lines j)
 
 -- the lowest fragment that a chain of pairs joins to each kept one, and 255 at each removed
 unfoldable pub lowests : ℕ → (ℕ → ℕ → Bool) → List ℕ → List ℕ
@@ -68,18 +70,16 @@ pub record Joined (m lo hi : ℕ) (turn : Bool) (l s l' s' : ℕ → ℕ) : Type
   pub moved : (a : ℕ) → a < m → l a ≡ hi → (l' a ≡ lo) × (s' a ≡ side_turned turn (s a))
   pub left : (a : ℕ) → a < m → (l a ≡ hi → ⊥) → (l' a ≡ l a) × (s' a ≡ s a)
 
--- at most 128 fragments, the words of 128, and a mark, a side and a label for each
-pub record Room (m : ℕ) (words frags sides labels : List ℕ) : Type 0 where
-  pub few : m ≤ 128
-  pub long : length words ≡ 512
-  pub marks : length frags ≡ m
-  pub sided : length sides ≡ m
-  pub labelled : length labels ≡ m
+-- at most 128 fragments, and a side and a label for each
+pub record Room (fragments : Fragments) (sides labels : List ℕ) : Type 0 where
+  pub few : length fragments.frags.now ≤ 128
+  pub sided : length sides ≡ length fragments.frags.now
+  pub labelled : length labels ≡ length fragments.frags.now
 
--- the state of the fragments that are related by their words
-abbrev pub Passed : ℕ → List ℕ → Places → List ℕ → ℕ → List ℕ → List ℕ → Type 0
-Passed m words keep frags k sides labels = State m (marked frags) (related words keep frags) k (nth labels) (nth sides)
+-- the state of the fragments that are related by their lines
+abbrev pub Passed : Fragments → ℕ → List ℕ → List ℕ → Type 0
+Passed f k sides labels = State (length f.frags.now) (marked f.frags.now) (related f.masks.now f.keep f.frags.now) k (nth labels) (nth sides)
 
 -- on a yes the pairs before place k are passed, on a no there are no sides
-abbrev pub PassedOr : Bool → ℕ → List ℕ → Places → List ℕ → ℕ → List ℕ → List ℕ → Type 0
-PassedOr ok m words keep frags k sides labels = ByVerdict ok (Passed m words keep frags k sides labels) (NoSides m (marked frags) (related words keep frags))
+abbrev pub PassedOr : Bool → Fragments → ℕ → List ℕ → List ℕ → Type 0
+PassedOr ok f k sides labels = ByVerdict ok (Passed f k sides labels) (NoSides (length f.frags.now) (marked f.frags.now) (related f.masks.now f.keep f.frags.now))

@@ -4,6 +4,7 @@ use Rattle.std.specs.Prelude.{◌≡◌, Bool, true, List, ℕ, zero, suc, ◌�
 use Rattle.below.specs.Below.{isnt, nth}
 use Rattle.fields.specs.Writing.{calls_end_of}
 use Rattle.conflicts.specs.Grid.{Grid, agree}
+use Rattle.places.specs.declared.lines.Line.{Line}
 use Rattle.places.specs.Algorithm.Places.{occupied, conflict_places}
 use Rattle.masks.specs.Algorithm.Masks.{line_at}
 
@@ -29,11 +30,11 @@ unfoldable pub can_join : Grid → ℕ → ℕ → Bool
 can_join g zero i = true
 can_join g (suc h) i = agree g h i
 
--- two fragments agree by the words of their masks: there is no column on which they conflict
-unfoldable pub words_agree : List ℕ → ℕ → ℕ → Bool
-words_agree words p q = isnt (occupied (conflict_places (line_at words p) (line_at words q)))
+-- two fragments agree by their lines: there is no column on which they conflict
+unfoldable pub words_agree : List Line → ℕ → ℕ → Bool
+words_agree lines p q = isnt (occupied (conflict_places (line_at lines p) (line_at lines q)))
 
--- the fragment at position i agrees with a side's state, by the words
-unfoldable pub words_join : List ℕ → ℕ → ℕ → Bool
-words_join words zero i = true
-words_join words (suc h) i = words_agree words h i
+-- the fragment at position i agrees with a side's state, by the lines
+unfoldable pub words_join : List Line → ℕ → ℕ → Bool
+words_join lines zero i = true
+words_join lines (suc h) i = words_agree lines h i

@@ -10,10 +10,9 @@ pub record AnswerFound (g : Grid) (keep_cols keep_frags : List ℕ) (ok : Bool) 
   pub verdict : ok ≡ error_free 2 g keep_cols keep_frags
   pub written : after ≡ (if ok then answer g keep_cols (first_sides_of 2 g keep_cols keep_frags) else before)
 
--- at most 128 fragments and columns, the words of 128 lines, and a mark for each column and fragment
-pub record MarkedMasks (m n : ℕ) (words keep_cols keep_frags : List ℕ) : Type 0 where
+-- at most 128 fragments and columns, and a mark for each
+pub record Marked (m n : ℕ) (keep_cols keep_frags : List ℕ) : Type 0 where
   pub few : m ≤ 128
   pub narrow : n ≤ 128
-  pub long : length words ≡ 512
   pub columns : length keep_cols ≡ n
   pub fragments : length keep_frags ≡ m

@@ -1,12 +1,8 @@
 -- `quick_find::alone` meets its contract. The invariant: the fragments passed are by themselves, on side 1.
 -- Assumes nothing.
-use Prim.Native.Nat.{◌-◌, ◌≤◌}
 use Rattle.components.proofs.SweepLaws.{Remade}
 use Rattle.components.proofs.StepLaws.{own_label_of, own_side_of}
 use Rattle.components.proofs.quick_find.alone.Given as goal
 
 abbrev pub invariant-loop-k : goal.invariant-loop-k
-invariant-loop-k l = (l.k ≤ l.m) × Remade (own_label_of l.frags) l.initial.labels l.labels l.k × Remade (own_side_of l.frags) l.initial.sides l.sides l.k
-
-abbrev pub decreases-loop-k : goal.decreases-loop-k
-decreases-loop-k l = l.m - l.k
+invariant-loop-k l = Remade (own_label_of l.frags) l.initial.labels l.labels l.k × Remade (own_side_of l.frags) l.initial.sides l.sides l.k

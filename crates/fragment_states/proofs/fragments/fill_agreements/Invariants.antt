@@ -1,14 +1,8 @@
 -- `fragments::fill_agreements` meets its contract. The loop's invariant: the states from the first on and below s are done.
 -- Assumes nothing.
-use mathlib.Core.Path.{◌≡◌}
-use Prim.Native.Nat.{◌-◌}
-use lib.ListN.{length}
 use Rattle.below.specs.Below.{bit}
 use Rattle.fragment_states.specs.Algorithm.Fragments.{Between, words_join}
 use Rattle.fragment_states.proofs.fragments.fill_agreements.Given as goal
 
 abbrev pub invariant-loop-s : goal.invariant-loop-s
-invariant-loop-s l = (length l.agrees ≡ 129) × Between (λ q. bit (words_join l.masks q l.i)) l.first l.s l.agrees
-
-abbrev pub decreases-loop-s : goal.decreases-loop-s
-decreases-loop-s l = l.states - l.s
+invariant-loop-s l = Between (λ q. bit (words_join l.masks q l.i)) l.first l.s l.agrees

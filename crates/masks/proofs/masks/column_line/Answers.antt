@@ -5,6 +5,6 @@ use Rattle.masks.proofs.masks.column_line.Goals as goal
 
 pub returns : goal.returns
 returns c =
-    let low = c.column_letters-low.ensures in
-    let high = c.column_letters-high.ensures in
-    λ g masks. column-is g masks c.args.c c.requires.1 low.a high.a low.b high.b
+    let low = c.column_letters-low_a.ensures in
+    let high = c.column_letters-high_a.ensures in
+    λ g masks. column-is g masks c.args.c c.requires low.a high.a low.b high.b

@@ -1,27 +1,12 @@
--- `masks::fill_columns` meets its contract. The invariant: the words of the columns passed are theirs.
-use borrow.Author.Rules.{rules}
-use Rattle.masks.specs.Algorithm.Masks.{transposed}
-use Rattle.masks.proofs.LineLaws.{words-none, words-all}
+-- `masks::fill_columns` meets its contract. The invariant: the lines passed are the columns'.
+use Rattle.masks.proofs.LineLaws.{words-none, words_more, words-all}
 use Rattle.masks.proofs.masks.fill_columns.Goals as goal
 
 pub loop-c-init : goal.loop-c-init
-loop-c-init c = let e = c.requires.1 in (search rules, record { sized = e; begun = λ g masks. words-none _ e })
-
-pub put_line-requires : goal.put_line-requires
-put_line-requires c = (c.loop-c.invariant.1.sized, search rules)
+loop-c-init c = λ g masks. words-none _ c.told-columns
 
 pub loop-c-preserved : goal.loop-c-preserved
-loop-c-preserved c =
-    let lp = c.loop-c in (
-      search rules,
-      record {
-        sized = (let e = lp.invariant.1.sized in search rules);
-        begun = λ g masks. c.put_line.ensures (transposed g) (c.column_line.ensures g masks) (lp.invariant.1.begun g masks);
-      },
-    )
-
-pub shape_of-columns : goal.shape_of-columns
-shape_of-columns c = let e = c.loop-c.invariant.1.sized in search rules
+loop-c-preserved c = λ g masks. words_more _ c.loop-c.c c.loop-c-test.true (c.column_line.ensures g masks) (c.loop-c.invariant g masks)
 
 pub returns : goal.returns
-returns c = let lp = c.loop-c in λ g masks. words-all _ lp.c lp.invariant.0 c.loop-c-test.false (lp.invariant.1.begun g masks)
+returns c = λ g masks. words-all _ c.loop-c-test.false (c.loop-c.invariant g masks)

@@ -1,11 +1,8 @@
--- `masks::fill_columns` meets its contract. The invariant: the words of the columns passed are theirs.
+-- `masks::fill_columns` meets its contract. The invariant: the lines passed are the columns'.
 -- Assumes nothing.
-use Prim.Native.Nat.{◌-◌, ◌≤◌}
-use Rattle.masks.specs.Algorithm.Masks.{ColumnsBegun}
+use Rattle.conflicts.specs.Grid.{Grid}
+use Rattle.masks.specs.Algorithm.Masks.{transposed, Masks, WordsBegun}
 use Rattle.masks.proofs.masks.fill_columns.Given as goal
 
 abbrev pub invariant-loop-c : goal.invariant-loop-c
-invariant-loop-c l = (l.c ≤ 128) × ColumnsBegun l.masks l.c l.columns
-
-abbrev pub decreases-loop-c : goal.decreases-loop-c
-decreases-loop-c l = 128 - l.c
+invariant-loop-c l = (g : Grid) → Masks g l.masks → WordsBegun (transposed g) l.c l.columns

@@ -17,4 +17,4 @@ pub returns : goal.returns
 returns c =
     let part = part-read (goal.at.returns c).After-record_at-part in
     λ n lettered.
-    record-line lettered c.requires (c.letters_of-letters.ensures ∙ ap letters_in part) (c.start-s.ensures ∙ ap start_of part) c.raised.ensures c.raised-2.ensures
+    record-line lettered c.requires (c.letters_of-letters.ensures ∙ ap letters_in part) (c.from-s.ensures ∙ c.start.ensures ∙ ap start_of part) c.raised.ensures c.raised-2.ensures

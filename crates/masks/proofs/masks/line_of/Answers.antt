@@ -10,9 +10,6 @@ pub fragment_line-requires : goal.fragment_line-requires
 unfolding fragments
 fragment_line-requires c = search rules
 
-pub returns : goal.returns
+pub returns-else-i-table : goal.returns-else-i-table
 unfolding grid_of fragments
-returns c = λ n lettered. line-none (grid_of n c.args.table.now) c.args.i c.if-i-table.false
-
-pub returns-then-i-table : goal.returns-then-i-table
-returns-then-i-table c = c.fragment_line.ensures
+returns-else-i-table c = λ n lettered. line-none (grid_of n c.args.table.now) c.args.i c.if-i-table.false

@@ -1,29 +1,26 @@
 -- `pairs::mirror_row` meets its contract. The invariant: the pairs passed have their numbers, whatever these are, if they are the same both ways.
-use borrow.Author.Rules.{rules}
 use mathlib.Core.Path.{refl, ◌∙◌}
 use native.Mathlib.Omega.{arith}
 use Rattle.masks.proofs.PairLaws.{numbered_more, numbered-to, numbered-at}
 use Rattle.masks.proofs.pairs.mirror_row.Goals as goal
 
 pub loop-j-init : goal.loop-j-init
-loop-j-init c = (search rules, refl, λ number same w. numbered-to (omega arith) w)
+loop-j-init c = λ number same w. numbered-to (omega arith) w
 
 pub loop-j-preserved : goal.loop-j-preserved
 loop-j-preserved c =
     let l = c.loop-j in
     let i = c.args.i in
     let h = c.requires.0 in
-    let t = c.loop-j-test.true in (
-      search rules,
-      search rules,
-      λ number same w.
-          let now = l.invariant.2 number same w in
-          let r = numbered_more i l.j _ now refl h (omega arith) (numbered-at l.j i now h (omega arith) ∙ same l.j i) in
-          numbered-to (omega arith) r,
-    )
+    let t = c.loop-j-test.true in
+    λ number same w.
+    let now = l.invariant number same w in
+    let r = numbered_more i l.j _ now refl h (omega arith) (numbered-at l.j i now h (omega arith) ∙ same l.j i) in
+    numbered-to (omega arith) r
 
 pub returns : goal.returns
 returns c =
     let l = c.loop-j in
     let t = c.loop-j-test.false in
-    λ number same w. numbered-to (omega arith) (l.invariant.2 number same w)
+    let e = l.auto.j-end in
+    λ number same w. numbered-to (omega arith) (l.invariant number same w)

@@ -1,7 +1,8 @@
 -- `answer::fill_parts` meets its contract.
 -- Assumes nothing.
 use borrow.Author.Rules.{rules}
-use Prim.Native.Nat.{◌+◌}
+use Prim.Native.Nat.{◌+◌, ◌*◌}
+use lib.ListN.{length}
 use Rattle.conflicts.specs.Answer.{answer_size}
 use Rattle.phasing.specs.Algorithm.Haplotypes.{sections}
 use Rattle.phasing.proofs.SectionLaws.{three-fill}
@@ -11,25 +12,18 @@ pub slice_bounds-fill_columns-end : goal.slice_bounds-fill_columns-end
 unfolding answer_size
 slice_bounds-fill_columns-end c = search rules
 
-pub slice_bounds-copy-end : goal.slice_bounds-copy-end
+pub slice_bounds-copy_from_slice-end : goal.slice_bounds-copy_from_slice-end
 unfolding answer_size
-slice_bounds-copy-end c = search rules
+slice_bounds-copy_from_slice-end c = search rules
 
-pub slice_bounds-copy-count-2 : goal.slice_bounds-copy-count-2
+pub copy_from_slice-requires-2 : goal.copy_from_slice-requires-2
 unfolding answer_size
-slice_bounds-copy-count-2 c = search rules
-
-pub slice_bounds-copy-start-2 : goal.slice_bounds-copy-start-2
-unfolding answer_size
-slice_bounds-copy-start-2 c = search rules
-
-pub copy-requires-2 : goal.copy-requires-2
-unfolding answer_size
-copy-requires-2 c = search rules
+copy_from_slice-requires-2 c = search rules
 
 pub returns : goal.returns
 unfolding sections
 returns c =
     let a = c.args in
-    three-fill a.bytes.now c.fill_columns.ensures c.copy.ensures (a.n + a.n + a.n) (search rules)
-    c.copy-2.ensures (a.n + a.n + a.n + a.m) (search rules)
+    let n3 = length a.cols.now * 3 in
+    three-fill a.bytes.now c.fill_columns.ensures c.copy_from_slice.ensures.after n3 (search rules)
+    c.copy_from_slice-2.ensures.after (n3 + length a.sides.now) (search rules)

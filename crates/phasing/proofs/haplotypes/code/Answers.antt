@@ -16,8 +16,8 @@ returns-then-has c = rw (<?-true 0 _ (pos_of_ne-zero c.if-keep-eq0.false), sym c
 
 pub returns-then-has-2 : goal.returns-then-has-2
 unfolding code_in
-returns-then-has-2 c = rw (<?-true 0 _ (pos_of_ne-zero c.if-keep-eq0.false), sym c.has.ensures ∙ c.if-has.false, sym c.has-2.ensures ∙ c.if-has-2.true) refl
+returns-then-has-2 c = rw (<?-true 0 _ (pos_of_ne-zero c.if-keep-eq0.false), sym c.has.ensures ∙ c.if-has.false, sym c.has-else-has.ensures ∙ c.if-has-2.true) refl
 
-pub returns : goal.returns
+pub returns-else-has-2 : goal.returns-else-has-2
 unfolding code_in
-returns c = rw (<?-true 0 _ (pos_of_ne-zero c.if-keep-eq0.false), sym c.has.ensures ∙ c.if-has.false, sym c.has-2.ensures ∙ c.if-has-2.false) refl
+returns-else-has-2 c = rw (<?-true 0 _ (pos_of_ne-zero c.if-keep-eq0.false), sym c.has.ensures ∙ c.if-has.false, sym c.has-else-has.ensures ∙ c.if-has-2.false) refl

@@ -1,22 +1,21 @@
 -- `haplotypes::merged` meets its contract. The invariant: the lines of the fragments passed are merged.
-use borrow.Author.Rules.{rules}
-use mathlib.Core.Path.{refl}
+use mathlib.Core.Path.{refl, ◌∙◌}
+use Rattle.below.specs.Below.{nth}
+use Rattle.below.proofs.SearchLaws.{=?-true, =?-false}
 use Rattle.phasing.specs.Algorithm.Haplotypes.{merged_line}
-use Rattle.phasing.proofs.HaplotypeLaws.{merged-more, merged-end}
+use Rattle.phasing.proofs.HaplotypeLaws.{merged-more}
 use Rattle.phasing.proofs.haplotypes.merged.Goals as goal
+use Rattle.phasing.proofs.haplotypes.merged.Goals.{then-side-s, else-side-s}
 
 pub loop-i-init : goal.loop-i-init
 unfolding merged_line
-loop-i-init c = (search rules, refl)
+loop-i-init c = refl
 
 pub loop-i-preserved : goal.loop-i-preserved
 loop-i-preserved c =
     let a = c.args in
-    let loop = c.loop-i in
-    (search rules, merged-more a.masks.now a.sides.now a.s loop.i loop.invariant.1 c.with_fragment-line.ensures)
-
-pub returns : goal.returns
-returns c =
-    let a = c.args in
-    let loop = c.loop-i in
-    merged-end a.masks.now a.sides.now a.s loop.invariant.0 c.loop-i-test.false loop.invariant.1
+    let i = c.loop-i.i in
+    merged-more a.masks.now a.sides.now a.s i c.loop-i.invariant (elim c.if-side-s.branch [
+      | then-side-s w ↦ rw (=?-true (nth a.sides.now i) a.s w.if-side-s.true) (w.line-is ∙ w.either-line.ensures)
+      | else-side-s w ↦ rw (=?-false (nth a.sides.now i) a.s w.if-side-s.false) w.line-is
+    ])
