@@ -6,38 +6,35 @@ ghost use Rattle.conflicts.specs.Grid.{grid_of};
 ghost use Rattle.conflicts.specs.Answer.{answer_size};
 ghost use Rattle.conflicts.specs.Services.{check_leaves};
 ghost use Rattle.phasing.specs.Algorithm.Answer.{AnswerFound};
-ghost use Rattle.records.specs.Algorithm.Kept.{SizesKept, RecordsKept};
 ghost use Rattle.verdicts.specs.Meanings.{CheckSays};
 
 use masks::{fill_masks, mask_room};
 use matrix::all_kept;
 use phasing::phase;
-use records::{Fault, Refusal, records_fault, size_fault};
+use records::{Fault, Refusal, SizedTable, SoundTable};
 
 // Phases the whole table: on a yes the answer is written, on a no nothing.
-fn phase_table(n: usize, m: usize, table: &[u8], answer: &mut [u8]) -> bool
-    requires sizes_kept { SizesKept n m table.now × RecordsKept n table.now }
-    requires answer_len { length answer.old ≡ answer_size m n }
-    ensures { AnswerFound (grid_of n table.now) (keep_all n) (keep_all m) result answer.old answer.new }
+fn phase_table(table: SoundTable<'_>, answer: &mut [u8]) -> bool
+    requires { length answer.old ≡ answer_size table.sized.m table.sized.n }
+    ensures { AnswerFound (grid_of table.entry.sized.n table.entry.sized.bytes.now) (keep_all table.entry.sized.n) (keep_all table.entry.sized.m) result answer.old answer.new }
 {
+    let SizedTable { n, m, bytes } = table.sized;
     let mut masks = mask_room();
     let cols = all_kept();
     let frags = all_kept();
-    fill_masks(table, &mut masks);
+    fill_masks(bytes, &mut masks);
     phase(m, n, &masks, &cols[0..n], &frags[0..m], answer)
 }
 
 // Check once the sizes are kept: the answer's length, then the records.
-fn check_sized(n: usize, m: usize, table: &[u8], answer: &mut [u8]) -> Result<usize, Refusal>
-    requires { SizesKept n m table.now }
-    ensures outcome { outcome_of result ≡ (check_leaves n table.now answer.old).outcome }
-    ensures answer { answer.new ≡ (check_leaves n table.now answer.old).answer }
+fn check_sized(table: SizedTable<'_>, answer: &mut [u8]) -> Result<usize, Refusal>
+    ensures outcome { outcome_of result ≡ (check_leaves table.entry.n table.entry.bytes.now answer.old).outcome }
+    ensures answer { answer.new ≡ (check_leaves table.entry.n table.entry.bytes.now answer.old).answer }
 {
-    if answer.len() != 3 * n + 2 * m {
+    if answer.len() != 3 * table.n + 2 * table.m {
         return Err(Fault::WrongBuffer.at(0));
     }
-    records_fault(n, table)?;
-    if phase_table(n, m, table, answer) {
+    if phase_table(table.sound()?, answer) {
         Ok(0)
     } else {
         Ok(1)
@@ -50,6 +47,6 @@ pub fn check(n: usize, table: &[u8], answer: &mut [u8]) -> Result<usize, Refusal
     ensures answer { answer.new ≡ (check_leaves n table.now answer.old).answer }
     ensures meaning { CheckSays n table.now answer.new (outcome_of result) }
 {
-    let m = size_fault(n, table)?;
-    check_sized(n, m, table, answer)
+    let table = SizedTable::read(n, table)?;
+    check_sized(table, answer)
 }

@@ -14,30 +14,28 @@ use Rattle.verdicts.proofs.checking.phase_table.Goals as goal
 pub slice_bounds-phase-end-2 : goal.slice_bounds-phase-end-2
 slice_bounds-phase-end-2 c =
     let e = ap length c.all_kept-cols.ensures ∙ length-replicate {A = ℕ} 128 1 in
-    let h = sized-n c.requires.sizes_kept.0 in omega arith
+    let h = sized-n c.args.table.sized.sizes in omega arith
 
 pub slice_bounds-phase-end-3 : goal.slice_bounds-phase-end-3
 slice_bounds-phase-end-3 c =
     let e = ap length c.all_kept-frags.ensures ∙ length-replicate {A = ℕ} 128 1 in
-    let h = sized-m c.requires.sizes_kept.0 in omega arith
+    let h = sized-m c.args.table.sized.sizes in omega arith
 
 pub phase-requires : goal.phase-requires
 phase-requires c =
-    let a = c.args in
-    let sized = c.requires.sizes_kept.0 in (
+    let t = c.args.table.sized in (
       record {
-        few = sized-m sized;
-        narrow = sized-n sized;
+        few = sized-m t.sizes;
+        narrow = sized-n t.sizes;
         long = search rules;
-        columns = ap length (all-kept-part a.n _ (sized-n sized) c.all_kept-cols.ensures) ∙ all-length a.n;
-        fragments = ap length (all-kept-part a.m _ (sized-m sized) c.all_kept-frags.ensures) ∙ all-length a.m;
+        columns = ap length (all-kept-part t.n _ (sized-n t.sizes) c.all_kept-cols.ensures) ∙ all-length t.n;
+        fragments = ap length (all-kept-part t.m _ (sized-m t.sizes) c.all_kept-frags.ensures) ∙ all-length t.m;
       },
-      c.requires.answer_len,
+      c.requires,
     )
 
 pub returns : goal.returns
 returns c =
-    let a = c.args in
-    let sized = c.requires.sizes_kept.0 in
-    table-found sized c.requires.sizes_kept.1 c.fill_masks.ensures (all-kept-part a.n _ (sized-n sized) c.all_kept-cols.ensures) (all-kept-part a.m _ (sized-m sized) c.all_kept-frags.ensures)
+    let t = c.args.table.sized in
+    table-found t.sizes (record { count = _; kept = c.args.table.records }) c.fill_masks.ensures (all-kept-part t.n _ (sized-n t.sizes) c.all_kept-cols.ensures) (all-kept-part t.m _ (sized-m t.sizes) c.all_kept-frags.ensures)
     c.phase.ensures
