@@ -13,11 +13,12 @@ at counts highs lows j = get_or counts j 0 * top + (get_or highs j 0 * 2 ^ 64 + 
 unfoldable pub weights_of : List ℕ → List ℕ → List ℕ → List ℕ
 weights_of counts highs lows = tab (length counts) (at counts highs lows)
 
--- the lists have a place for each weight, and as few as a loop over them can count
-pub record Parallel (counts highs lows : List ℕ) : Type 0 where
-  pub highs_size : length highs ≡ length counts
-  pub lows_size : length lows ≡ length counts
-  pub few : length counts < 2 ^ 32
+-- the lists have n places each, and so few that their bytes can be counted
+pub record Parallel (n : ℕ) (counts highs lows : List ℕ) : Type 0 where
+  pub counts_size : length counts ≡ n
+  pub highs_size : length highs ≡ n
+  pub lows_size : length lows ≡ n
+  pub few : n < 2 ^ 32
 
 -- place j is one of the table's
 pub record Inside (counts highs lows : List ℕ) (j : ℕ) : Type 0 where

@@ -1,7 +1,7 @@
 -- `Ranks::get` meets its contract.
 -- Assumes nothing.
-use Rattle.ranks.proofs.TableLaws.{weight-at}
+use Rattle.ranks.proofs.TableLaws.{inside_of, weight-at}
 use Rattle.ranks.proofs.table.Ranks.get.Goals as goal
 
 pub returns : goal.returns
-returns c = rw c.from.ensures (weight-at _ _ _ c.self.view_is c.requires)
+returns g c = let i = inside_of c.self.invariant c.requires in rw c.from.ensures (weight-at _ _ _ c.self.view_is i.in_counts)
