@@ -34,7 +34,8 @@ counted-spans spans c (suc m) h = rw (← add-one m) (step (counted-spans spans 
 
 module _ (g : Grid) where
   module _ (spans : List Span) (sp : Spanned g spans) where
-    covers-is : (c i : ℕ) → i < g.m → has_column (span_at spans i) c ≡ covers g c i
+    -- what a span has is what its fragment covers
+    pub covers-is : (c i : ℕ) → i < g.m → has_column (span_at spans i) c ≡ covers g c i
     unfolding has_column covers ◌and◌
     covers-is c i lt = rw (sp.begins i lt, sp.stops i lt, <?-true i g.m lt)
 

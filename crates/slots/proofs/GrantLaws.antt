@@ -23,7 +23,7 @@ use Rattle.events.proofs.FreeLaws.{free-below, free-apart, given-none, given-ski
 use Rattle.slots.specs.Algorithm.Columns.{first_column, end_column_of, covers}
 use Rattle.slots.specs.declared.spans.Span.{Span}
 use Rattle.slots.specs.Algorithm.Spans.{span_at, has_column, entered_by, hit_slot, used_by, free_by, Spans, Marks, Spanned, Granted, Slotted}
-use Rattle.slots.proofs.CoverLaws.{covers_of, grid-starts, start-le, coverage-is}
+use Rattle.slots.proofs.CoverLaws.{grid-starts, start-le, coverage-is}
 
 -- ---- lists
 
@@ -109,9 +109,6 @@ module _ (g : Grid) (spans : List Span) (sp : Spanned g spans) where
     low = λ x l. let e = sp.begins x l in let h = start-le g x in omega arith;
     slots_low = fits;
   }
-
-  pub covered : (c i : ℕ) → i < g.m → (span_at spans i).start ≤ c → c < (span_at spans i).end → T (covers g c i)
-  covered c i lt a b = let p = sp.begins i lt in let q = sp.stops i lt in covers_of g c i lt (omega arith) (omega arith)
 
 module _ (g : Grid) (small : g.m ≤ 128) where
   abbrev start : ℕ → ℕ
