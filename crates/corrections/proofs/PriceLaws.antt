@@ -2,6 +2,7 @@
 -- Assumes nothing.
 use Rattle.std.specs.Prelude.{if◌then◌else◌}
 use mathlib.Core.Path.{◌≡◌, refl, sym, subst, ◌∙◌}
+use mathlib.Core.Bool.{true, false}
 use mathlib.Core.List.{List}
 use Prim.Native.Nat.{ℕ, zero, suc, ◌+◌, ◌*◌, ◌≤◌, ◌<◌, zero-le}
 use native.Mathlib.Decide.{ℕ_discrete, dec_lt}
@@ -10,8 +11,9 @@ use native.Mathlib.Omega.{arith}
 use lib.Dec.{T}
 use lib.ListN.{length, get_or, set, length-set, get_or-eq_default}
 use lib.Seq.{get_or-set_same, get_or-set_other}
-use Rattle.below.specs.Below.{◌=?◌, ◌<?◌, ◌≤?◌, ◌and◌, nth}
-use Rattle.below.proofs.BelowLaws.{both, left-of, right_of, T-isnt, isnt-T, isnt-and, if-ind, if-true, if-false, <?-lt, lt-<?, ≤?-le, le-≤?, le-isnt}
+use Rattle.below.specs.Below.{◌=?◌, ◌and◌, nth}
+use Rattle.below.proofs.BelowLaws.{if-ind}
+use Rattle.below.proofs.SearchLaws.{true-T, false-T}
 use Rattle.conflicts.specs.Grid.{Grid}
 use Rattle.conflicts.specs.Corrections.{correction_cost}
 use Rattle.events.specs.Algorithm.Slots.{gathered}
@@ -19,10 +21,7 @@ use Rattle.events.proofs.GatherLaws.{gathered-here, gathered-there}
 use Rattle.matrix.specs.Algorithm.Matrix.{weighted_grid, Weights}
 use Rattle.patterns.specs.Algorithm.Patterns.{Prices}
 use Rattle.slots.specs.Algorithm.Columns.{covers}
-use Rattle.slots.specs.Algorithm.Spans.{Spanned}
-use Rattle.corrections.specs.Algorithm.Sweep.{letter_price, Gathered, with_price}
-use Rattle.slots.proofs.CoverLaws.{covers_at}
-use Rattle.slots.proofs.GrantLaws.{covered}
+use Rattle.corrections.specs.Algorithm.Sweep.{letter_price, Gathered}
 
 module _ (g : Grid) (slots : List ℕ) (c letter : ℕ) where
   pub gathered_none : (prices : List ℕ) → length prices ≡ 8 → ((b : ℕ) → get_or prices b 0 ≡ 0) → Gathered g slots c letter 0 prices
@@ -30,7 +29,7 @@ module _ (g : Grid) (slots : List ℕ) (c letter : ℕ) where
   gathered_none prices size z = record { size = size; price = λ b lt. z b }
 
   -- fragment i covers the column, and its price goes to its slot
-  pub gathered-put : (prices : List ℕ) (i : ℕ) → nth slots i < 8 → T (covers g c i) → Gathered g slots c letter i prices
+  gathered-put : (prices : List ℕ) (i : ℕ) → nth slots i < 8 → T (covers g c i) → Gathered g slots c letter i prices
       → Gathered g slots c letter (i + 1) (set prices (nth slots i) (letter_price g c letter i))
   gathered-put prices i low t h =
       let inside : nth slots i < length prices = let z = h.size in omega arith in
@@ -45,26 +44,16 @@ module _ (g : Grid) (slots : List ℕ) (c letter : ℕ) where
         ]);
       }
 
-  -- it does not
-  pub gathered-skip : (prices : List ℕ) (i : ℕ) → (T (covers g c i) → ⊥) → Gathered g slots c letter i prices → Gathered g slots c letter (i + 1) prices
-  gathered-skip prices i out h = record {
-    size = h.size;
-    price = λ b lt. rw (add-one i) (h.price b lt ∙ sym (gathered-there (covers g c) (nth slots) (letter_price g c letter) i b (λ u e. out u)));
-  }
+  pub gathered-in : {prices : List ℕ} (i : ℕ) {x : ℕ} → nth slots i < 8 → covers g c i ≡ true → x ≡ letter_price g c letter i → Gathered g slots c letter i prices
+      → Gathered g slots c letter (i + 1) (set prices (nth slots i) x)
+  gathered-in {prices} i low on e h = rw e (gathered-put prices i low (true-T on) h)
 
-  -- one fragment more
-  pub gathered-more : (starts ends prices : List ℕ) (i x : ℕ) → Spanned g starts ends → i < g.m → letter_price g c letter i ≡ x → get_or slots i 0 < 8 → Gathered g slots c letter i prices
-      → Gathered g slots c letter (i + 1) (if nth starts i ≤? c and c <? nth ends i then set prices (nth slots i) x else prices)
-  gathered-more starts ends prices i x sp lt e low h =
-      if-ind (λ (l : List ℕ). Gathered g slots c letter (i + 1) l) (nth starts i ≤? c and c <? nth ends i)
-      (λ t. rw (sym e) (gathered-put prices i low (covered g starts ends sp c i lt (≤?-le _ _ (left-of _ _ t)) (<?-lt _ _ (right_of _ _ t))) h))
-      (λ t. gathered-skip prices i (λ u.
-      let r = covers_at g c i u in
-      let p = sp.begins i lt in
-      let q = sp.stops i lt in
-      let from = r.1 in
-      let to = r.2 in
-      T-isnt _ t (both _ _ (le-≤? _ _ (omega arith)) (lt-<? _ _ (omega arith)))) h)
+  -- it does not
+  pub gathered-skip : {prices : List ℕ} (i : ℕ) → covers g c i ≡ false → Gathered g slots c letter i prices → Gathered g slots c letter (i + 1) prices
+  gathered-skip i out h = record {
+    size = h.size;
+    price = λ b lt. rw (add-one i) (h.price b lt ∙ sym (gathered-there (covers g c) (nth slots) (letter_price g c letter) i b (λ u e. false-T out u)));
+  }
 
   -- no price is over what a fragment says
   gathered-most : (k : ℕ) → ((i : ℕ) → letter_price g c letter i ≤ k) → (m b : ℕ) → gathered (covers g c) (nth slots) (letter_price g c letter) m b ≤ k
@@ -74,7 +63,6 @@ module _ (g : Grid) (slots : List ℕ) (c letter : ℕ) where
 
   pub gathered-prices : (m : ℕ) (prices : List ℕ) → ((i : ℕ) → letter_price g c letter i ≤ 60) → Gathered g slots c letter m prices → Prices prices
   gathered-prices m prices light h = record {
-    size = h.size;
     most = λ b. elim (dec_lt b 8) [
       | yes lt ↦ rw (h.price b lt) (gathered-most 60 light m b)
       | no ge ↦ rw (get_or-eq_default prices 0 {n = b} (let z = h.size in omega arith)) zero-le
@@ -89,22 +77,3 @@ price-is m n cells weights c letter i = refl
 pub price-most : (m n : ℕ) (cells weights : List ℕ) → Weights weights → (c letter i : ℕ) → letter_price (weighted_grid m n cells weights) c letter i ≤ 60
 unfolding letter_price weighted_grid correction_cost
 price-most m n cells weights w c letter i = if-ind (λ x. x ≤ 60) (get_or cells (i * 128 + c) 0 =? letter) (λ t. w.most i) (λ t. zero-le)
-
--- the prices after a test, as the code has them
-module _ (cells weights starts ends slots : List ℕ) (c letter i : ℕ) (prices : List ℕ) where
-  pub price-put : {x : ℕ} → get_or starts i 0 ≤ c → c < get_or ends i 0 → x ≡ (if get_or cells (i * 128 + c) 0 =? letter then get_or weights i 0 else 0)
-      → set prices (get_or slots i 0) x ≡ with_price cells weights starts ends slots c letter i prices
-  unfolding with_price
-  price-put p q e = rw e (sym (if-true (nth starts i ≤? c and c <? nth ends i) _ _ (both _ _ (le-≤? _ _ p) (lt-<? _ _ q))))
-
-  pub price-ended : get_or ends i 0 ≤ c → prices ≡ with_price cells weights starts ends slots c letter i prices
-  unfolding with_price
-  price-ended q = sym (if-false (nth starts i ≤? c and c <? nth ends i) _ _ (isnt-and _ _ (λ t. le-isnt _ _ q)))
-
-  pub price-not-begun : c < get_or starts i 0 → prices ≡ with_price cells weights starts ends slots c letter i prices
-  unfolding with_price
-  price-not-begun p = sym (if-false (nth starts i ≤? c and c <? nth ends i) _ _ (isnt-T _ (λ t. let h = ≤?-le _ _ (left-of _ _ t) in absurd (omega arith))))
-
-  pub prices-long : length (with_price cells weights starts ends slots c letter i prices) ≡ length prices
-  unfolding with_price
-  prices-long = if-ind (λ (l : List ℕ). length l ≡ length prices) (nth starts i ≤? c and c <? nth ends i) (λ t. length-set prices _ _) (λ t. refl)

@@ -22,7 +22,8 @@ use Rattle.events.proofs.ShapeLaws.{shaped, few-from, few-part, charges-from, ch
 use Rattle.conflicts.specs.Served.{NoneDeep}
 use Rattle.slots.specs.Algorithm.Columns.{first_column, covers}
 use Rattle.conflicts.specs.Corrections.{column_cost}
-use Rattle.slots.specs.Algorithm.Spans.{Spanned, Slotted}
+use Rattle.slots.specs.declared.spans.Span.{Span}
+use Rattle.slots.specs.Algorithm.Spans.{span_at, Spanned, Slotted}
 use Rattle.corrections.specs.Algorithm.Sweep.{Gathered, EntersIf, HoldsAll}
 use Rattle.patterns.specs.Algorithm.Patterns.{slot_cost, PatternsRoom}
 use Rattle.slots.proofs.CoverLaws.{grid-starts, weight-local, cost-bound}
@@ -126,11 +127,11 @@ module _ (g : Grid) where
     part-next c q f v some h = let e : f ≡ f - 1 + 1 = omega arith in subst (λ (x : ℕ). HoldsAll g slots (part_of start g.m c x (g.m - x) q) v) e h
 
     -- fragment f, by what enter_if left
-    pub step-if : (starts ends : List ℕ) → Spanned g starts ends → (c q f : ℕ) (v u : ℕ → ℕ) → c + suc q ≤ g.n → f < g.m → EntersIf (nth starts f) (nth slots f) c f v u
+    pub step-if : (spans : List Span) → Spanned g spans → (c q f : ℕ) (v u : ℕ → ℕ) → c + suc q ≤ g.n → f < g.m → EntersIf (span_at spans f).start (nth slots f) c f v u
         → HoldsAll g slots (part_of start g.m c (f + 1) (g.m - (f + 1)) q) v → HoldsAll g slots (part_of start g.m c f (g.m - f) q) u
-    step-if starts ends sp c q f v u fits lt left h =
+    step-if spans sp c q f v u fits lt left h =
         let at = sp.begins f lt in
-        elim (ℕ_discrete (nth starts f) c) [
+        elim (ℕ_discrete (span_at spans f).start c) [
           | yes e ↦ step-enter c q f v u fits lt (sym at ∙ e) h (left.enters e)
           | no ne ↦ subst (HoldsAll g slots (part_of start g.m c f (g.m - f) q)) (sym (left.passes ne)) (step_skip c q f v lt (λ e. ne (at ∙ e)) h)
         ]

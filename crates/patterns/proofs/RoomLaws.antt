@@ -1,42 +1,24 @@
 -- PatternRoom in the table's weights: for a column's cost, and for a fragment that enters.
 -- Assumes nothing.
 use mathlib.Core.Path.{◌≡◌, sym, ap, ap₂, subst, ◌∙◌}
-use mathlib.Core.List.{List}
 use Prim.Native.Nat.{ℕ, suc, ◌+◌, ◌*◌, ◌-◌, ◌^◌, ◌/◌, ◌%◌, ◌≤◌, ◌<◌, min, zero-le}
 use native.Mathlib.Nat.{lt_of_lt_of_le, add-mul, zero-mul, zero-add, two-pow-succ, div-eq_of_lt, min-eq_left, min-eq_right}
 use native.Mathlib.Decide.{ℕ_discrete, dec_le}
 use native.Mathlib.Omega.{arith}
-use lib.ListN.{length, length-set}
 use lib.Pow.{pow_mono, pow_pos}
 use Rattle.below.specs.Below.{◌=?◌}
 use Rattle.below.proofs.BelowLaws.{if-true, if-false, eq-=?, ne-isnt}
 use Rattle.ranks.specs.declared.rank.Rank.{Rank}
 use Rattle.ranks.specs.Algorithm.Weight.{top, place}
 use Rattle.ranks.specs.Algorithm.Reading.{code, value, SumFits}
-use Rattle.ranks.specs.Algorithm.Tables.{Inside, Stored, Put, Sweep}
+use Rattle.ranks.specs.Algorithm.Tables.{Put, Sweep}
 use Rattle.ranks.proofs.WordLaws.{code-top, count_of, code_of, one_shl}
 use Rattle.events.specs.Algorithm.Events.{least_to}
 use Rattle.events.specs.Algorithm.Weights.{side_weight}
 use Rattle.events.specs.Algorithm.Slots.{digit, entered}
 use Rattle.events.proofs.DigitLaws.{set-add, set_below}
 use Rattle.events.proofs.SlotLaws.{turn-clear, turn-set}
-use Rattle.patterns.specs.Algorithm.Patterns.{Patterns, Alone, PatternRoom, PatternsRoom, entered_at}
-
--- ---- the table
-
-pub inside_of : {counts highs lows : List ℕ} {j : ℕ} → Patterns counts highs lows → j < 256 → Inside counts highs lows j
-inside_of p lt = record {
-  in_counts = let z = p.counts_size in omega arith;
-  in_highs = let z = p.highs_size in omega arith;
-  in_lows = let z = p.lows_size in omega arith;
-}
-
-pub patterns-put : {counts highs lows counts' highs' lows' : List ℕ} {j : ℕ} {r : Rank} → Stored counts highs lows counts' highs' lows' j r → Patterns counts highs lows → Patterns counts' highs' lows'
-patterns-put {counts} {highs} {lows} {counts'} {highs'} {lows'} s p =
-    let c : length counts' ≡ length counts = ap length s.counts_are ∙ simp length-set in
-    let h : length highs' ≡ length highs = ap length s.highs_are ∙ simp length-set in
-    let l : length lows' ≡ length lows = ap length s.lows_are ∙ simp length-set in
-    record { counts_size = c ∙ p.counts_size; highs_size = h ∙ p.highs_size; lows_size = l ∙ p.lows_size }
+use Rattle.patterns.specs.Algorithm.Patterns.{Alone, PatternRoom, PatternsRoom, entered_at}
 
 -- ---- weights
 

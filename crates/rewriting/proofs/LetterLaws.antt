@@ -14,7 +14,7 @@ use lib.Seq.{get_or-set_other}
 use Rattle.below.specs.Below.{sum_below, tab, ◌=?◌, ◌<?◌, ◌and◌, isnt, nth}
 use Rattle.fields.specs.Record.{is_call_code}
 use Rattle.below.proofs.BelowLaws.{both, right_of, if-ind, if-true, is_false, isnt-T, T-isnt, same_test, left-of, =?-eq, eq-=?, <?-lt, lt-<?, length-tab, get_or-tab}
-use Rattle.below.proofs.FillLaws.{Filled, filled_none, filled_more}
+use Rattle.below.proofs.FillLaws.{Filled, filled_more}
 use Rattle.below.proofs.SearchLaws.{<?-true, <?-false}
 use Rattle.below.proofs.RowLaws.{tab-ext}
 use Rattle.matrix.specs.Algorithm.Matrix.{weighted_grid}
@@ -52,9 +52,6 @@ pub record Adding (f : ℕ → ℕ) (old : List ℕ) (c : ℕ) (totals : List �
   pub rest : (j : ℕ) → c ≤ j → get_or totals j 0 ≡ get_or old j 0
 
 module _ (f : ℕ → ℕ) (old : List ℕ) where
-  pub adding-none : length old ≡ 128 → Adding f old 0 old
-  adding-none e = record { passed = filled_none 128 f old e; rest = λ j h. refl }
-
   pub adding-more : (c : ℕ) (totals : List ℕ) (v : ℕ) → Adding f old c totals → c < 128 → v ≡ f c → Adding f old (c + 1) (set totals c v)
   adding-more c totals v a lt e =
       record { passed = filled_more 128 f c totals v a.passed lt e; rest = λ j h. get_or-set_other totals c j v 0 (λ q. omega arith) ∙ a.rest j (omega arith) }
@@ -119,9 +116,14 @@ module _ (m n : ℕ) (cells sides first second : List ℕ) (i c : ℕ) (narrow :
   column-is : (i * 128 + c) % 128 ≡ c
   column-is = omega arith
 
-  pub lettered-row : i < m → lettered_in n cells (i * 128) (get_or sides i 0) first second c ≡ lettered_at m n cells sides first second (i * 128 + c)
+  pub lettered-row : i < m → lettered_in n cells (i * 128) (if get_or sides i 0 =? 1 then first else second) c ≡ lettered_at m n cells sides first second (i * 128 + c)
   unfolding lettered_in lettered_at ◌and◌
-  lettered-row h = rw (row_is, column-is, <?-true i m h) refl
+  lettered-row h = rw (row_is, column-is, <?-true i m h) (of-side (get_or sides i 0 =? 1))
+    where
+      of-side : (b : Bool) → lettered_in n cells (i * 128) (if b then first else second) c
+          ≡ (if c <? n then (if is_call_code (nth cells (i * 128 + c)) then (if b then nth first c else nth second c) else nth cells (i * 128 + c)) else 0)
+      of-side true = refl
+      of-side false = refl
 
   pub past_row : m ≤ i → 0 ≡ lettered_at m n cells sides first second (i * 128 + c)
   unfolding lettered_at ◌and◌

@@ -1,6 +1,6 @@
 -- The bytes of records that are written with the codes of a cell matrix.
 -- Assumes nothing.
-use mathlib.Core.Path.{◌≡◌, sym, ap, subst, ◌∙◌}
+use mathlib.Core.Path.{◌≡◌, refl, sym, ap, subst, ◌∙◌}
 use mathlib.Core.List.{List}
 use Prim.Native.Nat.{ℕ, ◌+◌, ◌*◌, ◌/◌, ◌%◌, ◌≤◌, ◌<◌}
 use native.Mathlib.Omega.{arith}
@@ -33,6 +33,15 @@ module _ (table cells : List ℕ) where
   -- byte k of the table: that of record k / 32 at k % 32
   unfoldable pub new_byte_of : ℕ → ℕ
   new_byte_of k = get_or (rewritten (record_bytes_at table (k / 32)) (row_in cells (k / 32))) (k % 32) 0
+
+  -- record i, written at once
+  pub record-written : (i : ℕ) {part output : List ℕ} → part ≡ record_bytes_at table i → output ≡ tab 32 (λ b. get_or (rewritten part (row_in cells i)) b 0) → output ≡ tab 32 (λ b. new_byte_of (i * 32 + b))
+  unfolding new_byte_of
+  record-written i {part} e h =
+      h ∙ tab-ext 32 _ _ (λ b l.
+      let row : (i * 32 + b) / 32 ≡ i = omega arith in
+      let place : (i * 32 + b) % 32 ≡ b = omega arith in
+      rw (row, place, e) refl)
 
   pub records-written : tab (fragments table * 32) new_byte_of ≡ rewritten_table table cells
   unfolding new_byte_of rewritten_table

@@ -9,25 +9,23 @@ use native.Mathlib.Omega.{arith}
 use lib.Dec.{T}
 use lib.ListN.{length, get_or, set, replicate, length-set, length-replicate}
 use lib.Seq.{get_or-set_same, get_or-set_other}
-use Rattle.below.specs.Below.{◌=?◌, ◌<?◌, ◌and◌, ◌or◌, isnt, any_below, count_below, first_below, nth}
+use Rattle.std.proofs.lemmas.List.{get_or-replicate}
+use Rattle.below.specs.Below.{◌=?◌, ◌and◌, ◌or◌, isnt, any_below, count_below, first_below, nth}
 use Rattle.below.proofs.BelowLaws.{any-ext}
-use Rattle.below.proofs.SearchLaws.{=?-true, =?-false, <?-true, <?-false, ≤?-true, ≤?-false, any-more}
+use Rattle.below.proofs.SearchLaws.{=?-true, =?-false, <?-true, any-more}
 use Rattle.conflicts.specs.Grid.{Grid, stretch_covers, coverage}
 use Rattle.matrix.specs.Algorithm.Matrix.{matrix_grid, weighted_grid}
 use Rattle.conflicts.specs.Served.{NoneDeep}
-use Rattle.ranks.specs.Algorithm.Tables.{Put}
 use Rattle.events.specs.Algorithm.Events.{with_value}
 use Rattle.events.specs.Algorithm.Slots.{turn_of, taken, used, free_slot_of, Given}
 use Rattle.events.proofs.LeastLaws.{value_same, value-other}
 use Rattle.events.proofs.FreeLaws.{free-below, free-apart, given-none, given-skip, given-more, given-next, given-apart}
 use Rattle.slots.specs.Algorithm.Columns.{first_column, end_column_of, covers}
-use Rattle.slots.specs.Algorithm.Spans.{entered_by, hit_slot, used_by, free_by, Spans, Marks, Spanned, Granted, Slotted}
-use Rattle.slots.proofs.CoverLaws.{covers_of, grid-starts, start-le, coverage-is}
+use Rattle.slots.specs.declared.spans.Span.{Span}
+use Rattle.slots.specs.Algorithm.Spans.{span_at, has_column, entered_by, hit_slot, used_by, free_by, Spans, Marks, Spanned, Granted, Slotted}
+use Rattle.slots.proofs.CoverLaws.{grid-starts, start-le, coverage-is}
 
 -- ---- lists
-
-pub list_put : (xs : List ℕ) (j x : ℕ) → j < length xs → Put (nth xs) (nth (set xs j x)) j x
-list_put xs j x lt = record { here = get_or-set_same xs j x 0 lt; there = λ i ne. get_or-set_other xs j i x 0 ne }
 
 pub zeros-at : (n i : ℕ) → ◌≡◌ {A = ℕ} (get_or (replicate n 0) i 0) 0
 zeros-at zero i = refl
@@ -45,98 +43,72 @@ unfolding ◌or◌
 or-false true = refl
 or-false false = refl
 
-or-true : (b : Bool) → isnt (b or true) ≡ false
-unfolding ◌or◌ isnt
+or-true : (b : Bool) → true ≡ (b or true)
+unfolding ◌or◌
 or-true true = refl
 or-true false = refl
 
 -- ---- the marks of the slots in use
 
-module _ (s e x c turn : ℕ) where
-  pub begun : s ≤ c → c < e → (s * 256 + x <? turn) ≡ entered_by s e x c turn
-  unfolding entered_by ◌and◌
-  begun p q = rw (≤?-true s c p, <?-true c e q)
+module _ (spans : List Span) (slots : List ℕ) (c turn : ℕ) where
+  pub marks-none : Marks 0 spans slots c turn (replicate 8 false)
+  unfolding used_by any_below
+  marks-none = record { size = length-replicate {A = Bool} 8 false; used = λ b h. get_or-replicate 8 b false false h }
 
-  pub ended : s ≤ c → e ≤ c → false ≡ entered_by s e x c turn
-  unfolding entered_by ◌and◌
-  ended p q = rw (≤?-true s c p, <?-false c e q)
-
-  pub not-begun : c < s → false ≡ entered_by s e x c turn
-  unfolding entered_by ◌and◌
-  not-begun p = rw (≤?-false s c p)
-
--- what a turn of the loop asks, for the fragments up to its own
-pub spans-first : {m : ℕ} {starts ends slots : List ℕ} (x : ℕ) → x < m → Spans m starts ends slots → Spans (x + 1) starts ends slots
-spans-first x lt sp =
-    let few = sp.few in
-    record { few = omega arith; starts_size = sp.starts_size; ends_size = sp.ends_size; slots_size = sp.slots_size; low = λ y l. sp.low y (omega arith); slots_low = sp.slots_low }
-
-module _ (starts ends slots : List ℕ) (c turn : ℕ) where
-  pub marks-none : Marks 0 starts ends slots c turn (replicate 8 0)
-  unfolding used_by any_below isnt
-  marks-none = record { size = length-replicate {A = ℕ} 8 0; free = λ b h. =?-true _ 0 (zeros-at 8 b) }
-
-  module _ (x : ℕ) (marks : List ℕ) (h : Marks x starts ends slots c turn marks) where
+  module _ (x : ℕ) (marks : List Bool) (h : Marks x spans slots c turn marks) where
     abbrev entered-x : Bool
-    entered-x = entered_by (get_or starts x 0) (get_or ends x 0) x c turn
+    entered-x = entered_by (span_at spans x) x c turn
 
-    used-more : (b : ℕ) → used_by (x + 1) starts ends slots c turn b ≡ (used_by x starts ends slots c turn b or (entered-x and get_or slots x 0 =? b))
+    used-more : (b : ℕ) → used_by (x + 1) spans slots c turn b ≡ (used_by x spans slots c turn b or (entered-x and get_or slots x 0 =? b))
     unfolding used_by hit_slot
     used-more b = any-more _ x
 
-    pub marks-pass : entered-x ≡ false → Marks (x + 1) starts ends slots c turn marks
+    pub marks-pass : entered-x ≡ false → Marks (x + 1) spans slots c turn marks
     unfolding ◌and◌
-    marks-pass out = record { size = h.size; free = λ b lt. h.free b lt ∙ ap isnt (sym (used-more b ∙ rw out (or-false _))) }
+    marks-pass out = record { size = h.size; used = λ b lt. h.used b lt ∙ sym (used-more b ∙ rw out (or-false _)) }
 
-    pub marks-more : entered-x ≡ true → get_or slots x 0 < 8 → Marks (x + 1) starts ends slots c turn (set marks (get_or slots x 0) 1)
+    pub marks-more : entered-x ≡ true → get_or slots x 0 < 8 → Marks (x + 1) spans slots c turn (set marks (get_or slots x 0) true)
     unfolding ◌and◌
     marks-more in_use low =
         let k = get_or slots x 0 in
         let long = h.size in
         record {
-          size = length-set marks k 1 ∙ h.size;
-          free = λ b lt. elim (ℕ_discrete b k) [
+          size = length-set marks k true ∙ h.size;
+          used = λ b lt. elim (ℕ_discrete b k) [
             | yes e ↦
-                ap (λ (y : ℕ). get_or (set marks k 1) y 0 =? 0) e
-                ∙ ap (λ (y : ℕ). y =? 0) (get_or-set_same marks k 1 0 (omega arith))
-                ∙ =?-false 1 0 (λ q. omega arith)
-                ∙ sym (ap isnt (used-more b) ∙ rw (in_use, =?-true k b (sym e)) (or-true _))
+                ap (λ (y : ℕ). get_or (set marks k true) y false) e
+                ∙ get_or-set_same marks k true false (omega arith)
+                ∙ sym (used-more b ∙ rw (in_use, =?-true k b (sym e)) (sym (or-true _)))
             | no ne ↦
-                ap (λ (y : ℕ). y =? 0) (get_or-set_other marks k b 1 0 ne)
-                ∙ h.free b lt
-                ∙ ap isnt (sym (used-more b ∙ rw (in_use, =?-false k b (λ q. ne (sym q))) (or-false _)))
+                get_or-set_other marks k b true false ne
+                ∙ h.used b lt
+                ∙ sym (used-more b ∙ rw (in_use, =?-false k b (λ q. ne (sym q))) (or-false _))
           ];
         }
 
-  pub free-marked : (m : ℕ) (marks : List ℕ) → Marks m starts ends slots c turn marks → first_below 8 (λ b. get_or marks b 0 =? 0) ≡ free_by m starts ends slots c turn
+  pub free-marked : (m : ℕ) (marks : List Bool) → Marks m spans slots c turn marks → first_below 8 (λ b. isnt (get_or marks b false)) ≡ free_by m spans slots c turn
   unfolding free_by
-  free-marked m marks h = first-same 8 _ _ h.free
+  free-marked m marks h = first-same 8 _ _ (λ b lt. ap isnt (h.used b lt))
 
-module _ (g : Grid) (starts ends : List ℕ) (sp : Spanned g starts ends) where
+module _ (g : Grid) (spans : List Span) (sp : Spanned g spans) where
   -- ---- what the lists say of a fragment
 
   pub hit-is : (slots : List ℕ) (c turn b x : ℕ) → x < g.m
-      → hit_slot (get_or starts x 0) (get_or ends x 0) x (get_or slots x 0) c turn b ≡ (taken (first_column g) (covers g) c turn x and nth slots x =? b)
-  unfolding hit_slot entered_by taken covers ◌and◌
+      → hit_slot (span_at spans x) x (get_or slots x 0) c turn b ≡ (taken (first_column g) (covers g) c turn x and nth slots x =? b)
+  unfolding hit_slot entered_by has_column taken covers ◌and◌
   hit-is slots c turn b x lt = rw (sp.begins x lt, sp.stops x lt, <?-true x g.m lt)
 
   -- the slot that the lists show free is the one that the theory takes
-  pub free-is : (slots : List ℕ) (c turn : ℕ) → free_by g.m starts ends slots c turn ≡ free_slot_of (first_column g) (covers g) g.m 8 c turn (nth slots)
+  pub free-is : (slots : List ℕ) (c turn : ℕ) → free_by g.m spans slots c turn ≡ free_slot_of (first_column g) (covers g) g.m 8 c turn (nth slots)
   unfolding free_by free_slot_of used_by used
   free-is slots c turn = first-same 8 _ _ (λ b l. ap isnt (any-ext g.m _ _ (hit-is slots c turn b)))
 
-  pub spans-of : {slots : List ℕ} → g.m ≤ 128 → g.n ≤ 128 → length slots ≡ 128 → ((x : ℕ) → get_or slots x 0 < 8) → Spans g.m starts ends slots
-  spans-of few narrow long fits = record {
+  pub spans-of : {slots : List ℕ} → g.m ≤ 128 → g.n ≤ 128 → ((x : ℕ) → get_or slots x 0 < 8) → Spans g.m spans slots
+  spans-of few narrow fits = record {
     few = few;
-    starts_size = sp.starts_size;
-    ends_size = sp.ends_size;
-    slots_size = long;
     low = λ x l. let e = sp.begins x l in let h = start-le g x in omega arith;
     slots_low = fits;
   }
-
-  pub covered : (c i : ℕ) → i < g.m → get_or starts i 0 ≤ c → c < get_or ends i 0 → T (covers g c i)
-  covered c i lt a b = let p = sp.begins i lt in let q = sp.stops i lt in covers_of g c i lt (omega arith) (omega arith)
 
 module _ (g : Grid) (small : g.m ≤ 128) where
   abbrev start : ℕ → ℕ
@@ -235,9 +207,9 @@ module _ (g : Grid) (small : g.m ≤ 128) where
 -- ---- weights beside the cells change nothing of where the fragments lie
 
 module _ (m n : ℕ) (cells weights : List ℕ) where
-  pub spanned-weighted : {starts ends : List ℕ} → Spanned (matrix_grid m n cells) starts ends → Spanned (weighted_grid m n cells weights) starts ends
+  pub spanned-weighted : {spans : List Span} → Spanned (matrix_grid m n cells) spans → Spanned (weighted_grid m n cells weights) spans
   unfolding matrix_grid weighted_grid first_column end_column_of
-  spanned-weighted sp = record { starts_size = sp.starts_size; ends_size = sp.ends_size; begins = sp.begins; stops = sp.stops }
+  spanned-weighted sp = record { size = sp.size; begins = sp.begins; stops = sp.stops }
 
   pub shallow-weighted : NoneDeep (matrix_grid m n cells) → NoneDeep (weighted_grid m n cells weights)
   unfolding matrix_grid weighted_grid coverage stretch_covers

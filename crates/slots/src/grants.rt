@@ -1,90 +1,58 @@
 // A slot below 8 for each fragment, which no other fragment has that covers one of its columns.
-ghost use Rattle.std.specs.Prelude.{◌≡◌, ◌+◌, ◌*◌, ◌<◌, ◌≤◌, length, replicate};
-ghost use Rattle.below.specs.Below.{nth, first_below, ◌=?◌};
+ghost use Rattle.std.specs.Prelude.{◌≡◌, ◌+◌, ◌*◌, ◌<◌, ◌≤◌, get_or, replicate, false};
+ghost use Rattle.below.specs.Below.{first_below, isnt};
 ghost use Rattle.matrix.specs.Algorithm.Matrix.{matrix_grid, Matrix};
 ghost use Rattle.conflicts.specs.Served.{NoneDeep};
 ghost use Rattle.slots.specs.Algorithm.Spans.{entered_by, free_by, Spans, Marks, Spanned, Granted, Slotted};
 
-// A fragment from s to e at position x covers column c and entered before the turn.
-fn entered(s: usize, e: usize, x: usize, c: usize, turn: usize) -> bool
-    requires { (x < 128) × (s ≤ 128) }
-    ensures { result ≡ entered_by s e x c turn }
+use crate::spans::Span;
+
+// A fragment of this span at position x covers column c and entered before the turn.
+fn entered(span: Span, x: usize, c: usize, turn: usize) -> bool
+    requires { (x < 128) × (span.start ≤ 128) }
+    ensures { result ≡ entered_by span x c turn }
 {
-    if s <= c {
-        if c < e {
-            return s * 256 + x < turn;
-        }
-    }
-    false
+    span.covers(c) && span.start * 256 + x < turn
 }
 
-// Marks fragment x's slot, if it covers column c and entered before the turn.
-fn mark_slot(
-    starts: &[usize],
-    ends: &[usize],
-    slots: &[usize],
-    c: usize,
-    turn: usize,
-    x: usize,
-    marks: &mut [u8],
-)
-    requires { Spans (x + 1) starts.now ends.now slots.now × Marks x starts.now ends.now slots.now c turn marks.old }
-    ensures { Marks (x + 1) starts.now ends.now slots.now c turn marks.new }
-{
-    if entered(starts[x], ends[x], x, c, turn) {
-        marks[slots[x]] = 1;
-    }
-}
-
-// Marks the slots in use at column c, in marks that are all 0.
+// Marks the slots in use at column c, in marks without one.
 fn mark_slots(
     m: usize,
-    starts: &[usize],
-    ends: &[usize],
-    slots: &[usize],
+    spans: &[Span; 128],
+    slots: &[usize; 128],
     c: usize,
     turn: usize,
-    marks: &mut [u8],
+    marks: &mut [bool; 8],
 )
-    requires { Spans m starts.now ends.now slots.now × (marks.old ≡ replicate 8 0) }
-    ensures { Marks m starts.now ends.now slots.now c turn marks.new }
+    requires { Spans m spans.now slots.now × (marks.old ≡ replicate 8 false) }
+    ensures { Marks m spans.now slots.now c turn marks.new }
 {
-    let mut x = 0;
-    while x < m {
-        mark_slot(starts, ends, slots, c, turn, x, marks);
-        x += 1;
+    for x in 0..m {
+        if entered(spans[x], x, c, turn) {
+            marks[slots[x]] = true;
+        }
     }
 }
 
-// The lowest of 8 slots without a mark, and 8 where all have one.
-fn first_unmarked(marks: &[u8]) -> usize
-    requires { length marks.now ≡ 8 }
-    ensures { result ≡ first_below 8 (λ b. nth marks.now b =? 0) }
+// The lowest of 8 slots without a mark, and 8 where all have one: a number, since one is free wherever a slot is given.
+fn first_unmarked(marks: &[bool; 8]) -> usize
+    ensures { result ≡ first_below 8 (λ b. isnt (get_or marks.now b false)) }
 {
-    let mut b = 0;
-    while b < 8 {
-        if marks[b] == 0 {
+    for b in 0..8 {
+        if !marks[b] {
             return b;
         }
-        b += 1;
     }
     8
 }
 
 // The lowest free slot at column c, and 8 where none is.
-fn free_slot(
-    m: usize,
-    starts: &[usize],
-    ends: &[usize],
-    slots: &[usize],
-    c: usize,
-    turn: usize,
-) -> usize
-    requires { Spans m starts.now ends.now slots.now }
-    ensures { result ≡ free_by m starts.now ends.now slots.now c turn }
+fn free_slot(m: usize, spans: &[Span; 128], slots: &[usize; 128], c: usize, turn: usize) -> usize
+    requires { Spans m spans.now slots.now }
+    ensures { result ≡ free_by m spans.now slots.now c turn }
 {
-    let mut marks = [0u8; 8];
-    mark_slots(m, starts, ends, slots, c, turn, &mut marks);
+    let mut marks = [false; 8];
+    mark_slots(m, spans, slots, c, turn, &mut marks);
     first_unmarked(&marks)
 }
 
@@ -93,20 +61,17 @@ fn slot_one(
     m: usize,
     n: usize,
     cells: &[u8],
-    starts: &[usize],
-    ends: &[usize],
-    slots: &mut [usize],
+    spans: &[Span; 128],
+    slots: &mut [usize; 128],
     c: usize,
     f: usize,
 )
-    requires { Matrix m n cells.now × Spanned (matrix_grid m n cells.now) starts.now ends.now × NoneDeep (matrix_grid m n cells.now) × (c < n) × (f < m)
+    requires { Matrix m n cells.now × Spanned (matrix_grid m n cells.now) spans.now × NoneDeep (matrix_grid m n cells.now) × (c < n) × (f < m)
         × Granted (matrix_grid m n cells.now) (c * 256 + f) slots.old }
     ensures { Granted (matrix_grid m n cells.now) (c * 256 + (f + 1)) slots.new }
 {
-    let s = starts[f];
-    if s == c {
-        let b = free_slot(m, starts, ends, slots, c, c * 256 + f);
-        slots[f] = b;
+    if spans[f].start == c {
+        slots[f] = free_slot(m, spans, slots, c, c * 256 + f);
     }
 }
 
@@ -115,38 +80,26 @@ fn slot_column(
     m: usize,
     n: usize,
     cells: &[u8],
-    starts: &[usize],
-    ends: &[usize],
-    slots: &mut [usize],
+    spans: &[Span; 128],
+    slots: &mut [usize; 128],
     c: usize,
 )
-    requires { Matrix m n cells.now × Spanned (matrix_grid m n cells.now) starts.now ends.now × NoneDeep (matrix_grid m n cells.now) × (c < n)
+    requires { Matrix m n cells.now × Spanned (matrix_grid m n cells.now) spans.now × NoneDeep (matrix_grid m n cells.now) × (c < n)
         × Granted (matrix_grid m n cells.now) (c * 256 + 0) slots.old }
     ensures { Granted (matrix_grid m n cells.now) ((c + 1) * 256 + 0) slots.new }
 {
-    let mut f = 0;
-    while f < m {
-        slot_one(m, n, cells, starts, ends, slots, c, f);
-        f += 1;
+    for f in 0..m {
+        slot_one(m, n, cells, spans, slots, c, f);
     }
 }
 
-// All fragments get their slots, from slots that are all 0.
-pub fn fill_slots(
-    m: usize,
-    n: usize,
-    cells: &[u8],
-    starts: &[usize],
-    ends: &[usize],
-    slots: &mut [usize],
-)
-    requires { Matrix m n cells.now × Spanned (matrix_grid m n cells.now) starts.now ends.now × NoneDeep (matrix_grid m n cells.now)
+// All fragments get their slots, from slots that are all 0. Only the contracts read the cells, here and in the two above.
+pub fn fill_slots(m: usize, n: usize, cells: &[u8], spans: &[Span; 128], slots: &mut [usize; 128])
+    requires { Matrix m n cells.now × Spanned (matrix_grid m n cells.now) spans.now × NoneDeep (matrix_grid m n cells.now)
         × Granted (matrix_grid m n cells.now) (0 * 256 + 0) slots.old }
     ensures { Slotted (matrix_grid m n cells.now) slots.new }
 {
-    let mut c = 0;
-    while c < n {
-        slot_column(m, n, cells, starts, ends, slots, c);
-        c += 1;
+    for c in 0..n {
+        slot_column(m, n, cells, spans, slots, c);
     }
 }

@@ -7,4 +7,4 @@ mod spans;
 
 pub use depth::first_deep;
 pub use grants::fill_slots;
-pub use spans::fill_spans;
+pub use spans::{Span, fill_spans};

@@ -3,20 +3,34 @@ ghost use Rattle.std.specs.Prelude.{◌≡◌, ℕ, ◌+◌, ◌*◌, length, ge
 ghost use Rattle.fields.specs.Record.{is_call_code};
 ghost use Rattle.matrix.specs.Algorithm.Matrix.{matrix_grid, Matrix};
 ghost use Rattle.slots.specs.Algorithm.Columns.{first_column, end_column_of};
-ghost use Rattle.slots.specs.Algorithm.Spans.{Spanned};
+ghost use Rattle.slots.specs.Algorithm.Spans.{Spanned, has_column};
 
 use matrix::call_at;
+
+// The columns of a fragment: the first, and one past the last.
+#[derive(Clone, Copy)]
+pub struct Span {
+    pub start: usize,
+    pub end: usize,
+}
+
+impl Span {
+    // Whether the span has a column.
+    pub fn covers(self, c: usize) -> bool
+        ensures { result ≡ has_column self c }
+    {
+        self.start <= c && c < self.end
+    }
+}
 
 // The first column that fragment i calls, and n where it calls none.
 fn start_of(n: usize, cells: &[u8], i: usize) -> usize
     ensures { (m : ℕ) → result ≡ first_column (matrix_grid m n cells.now) i }
 {
-    let mut c = 0;
-    while c < n {
+    for c in 0..n {
         if call_at(cells, i, c) {
             return c;
         }
-        c += 1;
     }
     n
 }
@@ -25,25 +39,23 @@ fn start_of(n: usize, cells: &[u8], i: usize) -> usize
 fn end_of(n: usize, cells: &[u8], i: usize) -> usize
     ensures { (m : ℕ) → result ≡ end_column_of (matrix_grid m n cells.now) i }
 {
-    let mut end = n;
-    while 0 < end {
-        if call_at(cells, i, end - 1) {
-            return end;
+    for c in (0..n).rev() {
+        if call_at(cells, i, c) {
+            return c + 1;
         }
-        end -= 1;
     }
     0
 }
 
-// The starts and ends of all fragments.
-pub fn fill_spans(m: usize, n: usize, cells: &[u8], starts: &mut [usize], ends: &mut [usize])
-    requires { Matrix m n cells.now × (length starts.old ≡ 128) × (length ends.old ≡ 128) }
-    ensures { Spanned (matrix_grid m n cells.now) starts.new ends.new }
+// The spans of all fragments.
+pub fn fill_spans(m: usize, n: usize, cells: &[u8], spans: &mut [Span; 128])
+    requires { Matrix m n cells.now }
+    ensures { Spanned (matrix_grid m n cells.now) spans.new }
 {
-    let mut i = 0;
-    while i < m {
-        starts[i] = start_of(n, cells, i);
-        ends[i] = end_of(n, cells, i);
-        i += 1;
+    for i in 0..m {
+        spans[i] = Span {
+            start: start_of(n, cells, i),
+            end: end_of(n, cells, i),
+        };
     }
 }

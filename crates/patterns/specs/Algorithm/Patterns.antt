@@ -1,6 +1,6 @@
 -- The weights of the 256 side patterns of 8 slots, and what the events of the elimination make of them.
 -- Assumes nothing.
-use Rattle.std.specs.Prelude.{◌≡◌, List, ℕ, ◌+◌, ◌*◌, ◌-◌, ◌^◌, ◌≤◌, ◌<◌, min, length, if◌then◌else◌}
+use Rattle.std.specs.Prelude.{◌≡◌, List, ℕ, ◌+◌, ◌*◌, ◌-◌, ◌^◌, ◌≤◌, ◌<◌, min, if◌then◌else◌}
 use Rattle.below.specs.Below.{nth, sum_below, ◌=?◌}
 use Rattle.conflicts.specs.Corrections.{side_price}
 use Rattle.ranks.specs.declared.rank.Rank.{Rank}
@@ -10,7 +10,6 @@ use Rattle.events.specs.Algorithm.Slots.{digit}
 
 -- the prices of a letter in the 8 slots, none over 60
 pub record Prices (prices : List ℕ) : Type 0 where
-  pub size : length prices ≡ 8
   pub most : (b : ℕ) → nth prices b ≤ 60
 
 -- what slot b says of a side: its price where it has digit d of the mask
@@ -24,12 +23,6 @@ slot_total_of prices mask d = sum_below 8 (slot_share prices mask d)
 -- what a mask costs at the prices of A and of B in a column: over the two sides, the smaller total
 unfoldable pub slot_cost : List ℕ → List ℕ → ℕ → ℕ
 slot_cost of_a of_b mask = side_price (slot_total_of of_a mask 0) (slot_total_of of_b mask 0) + side_price (slot_total_of of_a mask 1) (slot_total_of of_b mask 1)
-
--- the table has a place for each mask
-pub record Patterns (counts highs lows : List ℕ) : Type 0 where
-  pub counts_size : length counts ≡ 256
-  pub highs_size : length highs ≡ 256
-  pub lows_size : length lows ≡ 256
 
 -- a rank that weighs the place of fragment f
 pub record Alone (f : ℕ) (r : Rank) : Type 0 where

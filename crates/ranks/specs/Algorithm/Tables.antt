@@ -3,10 +3,22 @@
 use Rattle.std.specs.Prelude.{◌≡◌, List, ℕ, ◌+◌, ◌*◌, ◌^◌, ◌≤◌, ◌<◌, length, get_or, set, replicate}
 use Rattle.ranks.specs.declared.rank.Rank.{Rank}
 use Rattle.ranks.specs.Algorithm.Weight.{top}
+use Rattle.below.specs.Below.{tab}
 
 -- the weight at place j
 abbrev pub at : List ℕ → List ℕ → List ℕ → ℕ → ℕ
 at counts highs lows j = get_or counts j 0 * top + (get_or highs j 0 * 2 ^ 64 + get_or lows j 0)
+
+-- the weights of a table, place by place
+unfoldable pub weights_of : List ℕ → List ℕ → List ℕ → List ℕ
+weights_of counts highs lows = tab (length counts) (at counts highs lows)
+
+-- the lists have n places each, and so few that their bytes can be counted
+pub record Parallel (n : ℕ) (counts highs lows : List ℕ) : Type 0 where
+  pub counts_size : length counts ≡ n
+  pub highs_size : length highs ≡ n
+  pub lows_size : length lows ≡ n
+  pub few : n < 2 ^ 32
 
 -- place j is one of the table's
 pub record Inside (counts highs lows : List ℕ) (j : ℕ) : Type 0 where

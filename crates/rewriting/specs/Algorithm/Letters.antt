@@ -41,9 +41,6 @@ lettered_at m n cells sides first second k =
     then (if is_call_code (nth cells k) then (if nth sides (k / 128) =? 1 then nth first (k % 128) else nth second (k % 128)) else nth cells k)
     else 0
 
--- the same at column c of the row of a fragment on a side, whose cells start at a place
-unfoldable pub lettered_in : ℕ → List ℕ → ℕ → ℕ → List ℕ → List ℕ → ℕ → ℕ
-lettered_in n cells at side first second c =
-    if c <? n
-    then (if is_call_code (nth cells (at + c)) then (if side =? 1 then nth first c else nth second c) else nth cells (at + c))
-    else 0
+-- the same at column c of the row of a fragment whose cells start at a place, by the letters of its side
+unfoldable pub lettered_in : ℕ → List ℕ → ℕ → List ℕ → ℕ → ℕ
+lettered_in n cells at letters c = if c <? n then (if is_call_code (nth cells (at + c)) then nth letters c else nth cells (at + c)) else 0

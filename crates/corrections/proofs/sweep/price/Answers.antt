@@ -1,14 +1,10 @@
 -- `sweep::price` meets its contract.
 -- Assumes nothing.
-use mathlib.Core.Path.{refl}
-use borrow.Author.Tests.{eq-eqb, ne_eqb}
-use Rattle.below.specs.Below.{◌=?◌}
+use Rattle.below.proofs.SearchLaws.{=?-true, =?-false}
 use Rattle.corrections.proofs.sweep.price.Goals as goal
 
 pub returns-then-code-letter : goal.returns-then-code-letter
-unfolding ◌=?◌
-returns-then-code-letter c = rw (eq-eqb _ _ c.if-code-letter.true) refl
+returns-then-code-letter c = rw (=?-true _ _ c.if-code-letter.true)
 
-pub returns : goal.returns
-unfolding ◌=?◌
-returns c = rw (ne_eqb _ _ c.if-code-letter.false) refl
+pub returns-else-code-letter : goal.returns-else-code-letter
+returns-else-code-letter c = rw (=?-false _ _ c.if-code-letter.false)

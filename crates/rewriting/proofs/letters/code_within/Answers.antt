@@ -1,12 +1,13 @@
 -- `letters::code_within` meets its contract.
 -- Assumes nothing.
-use mathlib.Core.Path.{◌∙◌}
 use Rattle.below.proofs.SearchLaws.{<?-true, <?-false}
-use Rattle.rewriting.proofs.LetterLaws.{if_yes, if_no}
 use Rattle.rewriting.proofs.letters.code_within.Goals as goal
 
-pub returns-then-c-n : goal.returns-then-c-n
-returns-then-c-n c = c.corrected_code.ensures ∙ if_yes _ _ (<?-true _ _ c.if-c-n.true)
+pub returns-then-n-c : goal.returns-then-n-c
+returns-then-n-c c = rw (<?-false _ _ c.if-n-c.true)
 
-pub returns : goal.returns
-returns c = if_no _ _ (<?-false _ _ c.if-c-n.false)
+pub returns-then-is_call : goal.returns-then-is_call
+returns-then-is_call c = rw (<?-true _ _ c.if-n-c.false, ← c.is_call.ensures, c.if-is_call.true)
+
+pub returns-else-is_call : goal.returns-else-is_call
+returns-else-is_call c = rw (<?-true _ _ c.if-n-c.false, ← c.is_call.ensures, c.if-is_call.false)

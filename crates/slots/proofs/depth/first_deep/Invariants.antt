@@ -2,17 +2,15 @@
 -- Assumes nothing.
 use mathlib.Core.Bool.{Bool}
 use mathlib.Core.List.{List}
-use Prim.Native.Nat.{ℕ, ◌-◌, ◌≤◌}
+use Prim.Native.Nat.{ℕ}
 use Rattle.below.specs.Below.{◌<?◌}
 use Rattle.below.proofs.SearchLaws.{NoneBelow}
+use Rattle.slots.specs.declared.spans.Span.{Span}
 use Rattle.slots.specs.Algorithm.Spans.{covered_by}
 use Rattle.slots.proofs.depth.first_deep.Given as goal
 
-abbrev pub deep_at : ℕ → List ℕ → List ℕ → ℕ → Bool
-deep_at m starts ends c = 8 <? covered_by m starts ends c
+abbrev pub deep_at : ℕ → List Span → ℕ → Bool
+deep_at m spans c = 8 <? covered_by m spans c
 
 abbrev pub invariant-loop-c : goal.invariant-loop-c
-invariant-loop-c l = (l.c ≤ l.n) × NoneBelow l.c (deep_at l.m l.starts l.ends)
-
-abbrev pub decreases-loop-c : goal.decreases-loop-c
-decreases-loop-c l = l.n - l.c
+invariant-loop-c l = NoneBelow l.c (deep_at l.m l.spans)

@@ -1,21 +1,13 @@
 -- `grants::entered` meets its contract.
 -- Assumes nothing.
-use Rattle.below.specs.Below.{◌<?◌}
-use Rattle.slots.proofs.GrantLaws.{begun, ended, not-begun}
+use Rattle.below.specs.Below.{◌and◌, ◌<?◌}
+use Rattle.slots.specs.Algorithm.Spans.{entered_by}
 use Rattle.slots.proofs.grants.entered.Goals as goal
 
-pub returns-then-c-e : goal.returns-then-c-e
-unfolding ◌<?◌
-returns-then-c-e c =
-    let a = c.args in
-    begun a.s a.e a.x a.c a.turn c.if-s-c.true c.if-c-e.true
+pub returns-then-covers : goal.returns-then-covers
+unfolding entered_by ◌and◌ ◌<?◌
+returns-then-covers c = rw (← c.covers.ensures, c.if-covers.true)
 
-pub returns-else-c-e : goal.returns-else-c-e
-returns-else-c-e c =
-    let a = c.args in
-    ended a.s a.e a.x a.c a.turn c.if-s-c.true c.if-c-e.false
-
-pub returns-else-s-c : goal.returns-else-s-c
-returns-else-s-c c =
-    let a = c.args in
-    not-begun a.s a.e a.x a.c a.turn c.if-s-c.false
+pub returns-else-covers : goal.returns-else-covers
+unfolding entered_by ◌and◌
+returns-else-covers c = rw (← c.covers.ensures, c.if-covers.false)

@@ -5,7 +5,4 @@ use Rattle.slots.proofs.GrantLaws.{free-marked}
 use Rattle.slots.proofs.grants.free_slot.Goals as goal
 
 pub returns : goal.returns
-returns c = c.first_unmarked.ensures ∙ free-marked _ _ _ _ _ _ _ c.mark_slots.ensures
-
-pub first_unmarked-requires : goal.first_unmarked-requires
-first_unmarked-requires c = c.mark_slots.ensures.size
+returns c = c.first_unmarked.ensures ∙ free-marked _ _ _ _ _ _ c.mark_slots.ensures

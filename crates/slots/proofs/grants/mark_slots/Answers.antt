@@ -1,34 +1,22 @@
 -- `grants::mark_slots` meets its contract. The loop's invariant: the slots of the fragments passed have their marks.
-use borrow.Author.Rules.{rules}
-use mathlib.Core.Path.{◌≡◌, sym, ap, subst, ◌∙◌}
+use mathlib.Core.Path.{sym, subst, ◌∙◌}
+use mathlib.Core.Bool.{Bool}
 use mathlib.Core.List.{List}
-use Prim.Native.Nat.{ℕ, zero-le}
-use native.Mathlib.Omega.{arith}
-use lib.ListN.{length}
 use Rattle.slots.specs.Algorithm.Spans.{Marks}
-use Rattle.slots.proofs.GrantLaws.{spans-first, marks-none}
+use Rattle.slots.proofs.GrantLaws.{marks-none, marks-pass, marks-more}
+use Rattle.slots.proofs.grants.mark_slots.Goals.{then-entered, else-entered}
 use Rattle.slots.proofs.grants.mark_slots.Goals as goal
 
 pub loop-x-init : goal.loop-x-init
 loop-x-init c =
     let a = c.args in
-    (zero-le, subst (λ (l : List ℕ). Marks 0 a.starts.now a.ends.now a.slots.now a.c a.turn l) (sym c.requires.1) (marks-none _ _ _ _ _))
-
-pub mark_slot-requires : goal.mark_slot-requires
-mark_slot-requires c =
-    let l = c.loop-x in
-    (spans-first l.x c.loop-x-test.true c.requires.0, l.invariant.1)
+    subst (λ (l : List Bool). Marks 0 a.spans.now a.slots.now a.c a.turn l) (sym c.requires.1) (marks-none _ _ _ _)
 
 pub loop-x-preserved : goal.loop-x-preserved
-loop-x-preserved c = (search rules, c.mark_slot.ensures)
-
-pub shape_of-marks : goal.shape_of-marks
-shape_of-marks c = c.loop-x.invariant.1.size ∙ sym (ap length c.requires.1)
-
-pub returns : goal.returns
-returns c =
+loop-x-preserved c =
     let a = c.args in
     let l = c.loop-x in
-    let le = l.invariant.0 in
-    let e : l.x ≡ a.m = omega arith in
-    subst (λ (k : ℕ). Marks k a.starts.now a.ends.now a.slots.now a.c a.turn l.marks) e l.invariant.1
+    elim c.if-entered.branch [
+      | then-entered w ↦ rw w.marks-is (marks-more a.spans.now a.slots.now a.c a.turn l.x l.marks l.invariant (sym c.entered.ensures ∙ w.if-entered.true) (c.requires.0.slots_low l.x))
+      | else-entered w ↦ rw w.marks-is (marks-pass a.spans.now a.slots.now a.c a.turn l.x l.marks l.invariant (sym c.entered.ensures ∙ w.if-entered.false))
+    ]

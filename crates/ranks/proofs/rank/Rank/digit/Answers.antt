@@ -9,7 +9,7 @@ returns-then-p-lt64 c =
     let a = c.args in
     high_digit a.self.high a.self.low a.p (search rules) c.if-p-lt64.true
 
-pub returns : goal.returns
-returns c =
+pub returns-else-p-lt64 : goal.returns-else-p-lt64
+returns-else-p-lt64 c =
     let a = c.args in
     low_digit a.self.high a.self.low a.p c.if-p-lt64.false c.requires
