@@ -9,5 +9,5 @@ mod rows;
 mod weights;
 
 pub use copying::births;
-pub use fragment::Fragment;
+pub use fragment::{Fragment, STATES};
 pub use rows::{PLACES, layer};

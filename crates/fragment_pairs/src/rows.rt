@@ -7,12 +7,12 @@ ghost use Rattle.ranks.specs.Algorithm.Tables.{Sweep};
 ghost use Rattle.fragment_pairs.specs.Algorithm.Layer.{with_fragment};
 ghost use Rattle.fragment_pairs.specs.Algorithm.Pairs.{row_start_of, pairs, along, FragmentRoom, Made};
 
-use crate::fragment::Fragment;
+use crate::fragment::{Fragment, STATES};
 use ranks::rank::Rank;
 use ranks::table::Ranks;
 
-// The pairs of 129 states, each pair once.
-pub const PLACES: usize = 8385;
+// The pairs of states, each pair once.
+pub const PLACES: usize = STATES * (STATES + 1) / 2;
 
 // Where the row of state h begins.
 pub(crate) fn row_start(h: usize) -> usize
@@ -37,7 +37,7 @@ fn row_joined(t: &mut Ranks<'_, PLACES>, f: &Fragment<'_>, far: Rank, d: usize, 
     }
 }
 
-// The same where it does not join side 1. A loop of its own is faster than a test in each turn of one for both.
+// The same where it does not join side 1: a loop of its own, since it passes over the states of side 2 that the fragment does not join.
 fn row_apart(t: &mut Ranks<'_, PLACES>, f: &Fragment<'_>, far: Rank, d: usize, h: usize)
     requires { (d ≤ h) × (h ≤ f.now.i) × FragmentRoom f.now.own d h (f.now.i + 1) (pairs t.old)
         × (value far ≡ value f.now.own + pairs t.old h (f.now.i + 1)) × (marked f.now.agrees.now h ≡ false) }

@@ -7,7 +7,7 @@ ghost use Rattle.ranks.specs.Algorithm.Tables.{Put};
 ghost use Rattle.fragment_pairs.specs.Algorithm.Layer.{furthest, keep_fragment};
 ghost use Rattle.fragment_pairs.specs.Algorithm.Pairs.{Fits};
 
-use crate::fragment::Fragment;
+use crate::fragment::{Fragment, STATES};
 use crate::rows::PLACES;
 use ranks::rank::Rank;
 use ranks::table::Ranks;
@@ -28,25 +28,21 @@ impl<'a> Fragment<'a> {
 
     // The fragment may join a side at state s.
     pub(crate) fn joins(&self, s: usize) -> bool
-        requires { s < 129 }
+        requires { s < STATES }
         ensures { result ≡ marked self.now.agrees.now s }
     {
         0 < self.agrees[s]
     }
 
-    // The greater of the weight `here`, without the fragment, and that with it on a side at state l, if it may join it: the side moves on, to `far`, or stays.
-    fn greater_joined(&self, here: Rank, may: bool, l: usize, far: Rank) -> Rank
+    // The greater of the weight `here`, without the fragment, and that with it on a side at state l, which it may join: the side moves on, to `far`, or stays.
+    fn greater_joined(&self, here: Rank, l: usize, far: Rank) -> Rank
         requires { (l ≤ self.now.i) × SumFits self.now.own here }
-        ensures { value result ≡ if may then max (value here) (if nth self.now.reaches.now l <? nth self.now.reaches.now (self.now.i + 1) then value far else value self.now.own + value here) else value here }
+        ensures { value result ≡ max (value here) (if nth self.now.reaches.now l <? nth self.now.reaches.now (self.now.i + 1) then value far else value self.now.own + value here) }
     {
-        if may {
-            if self.reaches[l] < self.reaches[self.i + 1] {
-                here.greater(far)
-            } else {
-                self.own.plus(here)
-            }
+        if self.reaches[l] < self.reaches[self.i + 1] {
+            here.greater(far)
         } else {
-            here
+            self.own.plus(here)
         }
     }
 
@@ -60,25 +56,29 @@ impl<'a> Fragment<'a> {
         j: usize,
         k: usize,
     ) -> Rank
-        requires { (j < 8385) × (k < 8385) × (l ≤ self.now.i) × Fits self.now.own (value far) (nth t.now k) (nth t.now j) }
+        requires { (j < PLACES) × (k < PLACES) × (l ≤ self.now.i) × Fits self.now.own (value far) (nth t.now k) (nth t.now j) }
         ensures { (value result ≡ keep_fragment true (marked self.now.agrees.now l) (value self.now.own + nth t.now k)
             (if nth self.now.reaches.now l <? nth self.now.reaches.now (self.now.i + 1) then value far else value self.now.own + nth t.now j) (nth t.now j))
             × (result.count < 65536) }
     {
         let here = t.get(j);
-        let best = self.greater_joined(here, self.joins(l), l, far);
+        let best = if self.joins(l) {
+            self.greater_joined(here, l, far)
+        } else {
+            here
+        };
         best.greater(self.own.plus(t.get(k)))
     }
 
     // Puts that weight where the fragment does not join side 1: it stays as it is, unless the fragment joins side 2.
     pub(crate) fn put_apart(&self, t: &mut Ranks<'_, PLACES>, far: Rank, l: usize, j: usize)
-        requires { (j < 8385) × (l ≤ self.now.i) × Fits self.now.own (value far) (nth t.old j) (nth t.old j) }
+        requires { (j < PLACES) × (l ≤ self.now.i) × Fits self.now.own (value far) (nth t.old j) (nth t.old j) }
         ensures { Put (nth t.old) (nth t.new) j
             (keep_fragment false (marked self.now.agrees.now l) 0
             (if nth self.now.reaches.now l <? nth self.now.reaches.now (self.now.i + 1) then value far else value self.now.own + nth t.old j) (nth t.old j)) }
     {
         if self.joins(l) {
-            let r = self.greater_joined(t.get(j), true, l, far);
+            let r = self.greater_joined(t.get(j), l, far);
             t.put(j, r);
         }
     }

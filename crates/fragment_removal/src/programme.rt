@@ -10,7 +10,7 @@ ghost use Rattle.conflicts.specs.Removal.{fragment_keep_marks_of};
 ghost use Rattle.fragment_pairs.specs.Algorithm.Pairs.{pairs};
 ghost use Rattle.fragment_removal.specs.Algorithm.Holding.{Prepared, HoldsFragments, Dead, Behind};
 
-use fragment_pairs::{Fragment, PLACES, births, layer};
+use fragment_pairs::{Fragment, PLACES, STATES, births, layer};
 use fragment_states::{calls_below, fill_agreements};
 use masks::line_at;
 use places::Line;
@@ -27,7 +27,7 @@ fn line_start(n: usize, line: Line) -> u8
 }
 
 // The last state, at most `most`, such that neither it nor one before it reaches past a start.
-fn last_behind(reaches: &[u8; 129], start: u8, most: usize) -> usize
+fn last_behind(reaches: &[u8; STATES], start: u8, most: usize) -> usize
     requires { (nth reaches.now 0 ≡ 0) × (most ≤ 128) }
     ensures { (result ≤ most) × Behind reaches.now start result }
 {
@@ -40,7 +40,7 @@ fn last_behind(reaches: &[u8; 129], start: u8, most: usize) -> usize
 }
 
 // The last state, at most d, such that neither it nor one before it reaches past the start of the fragment at position i.
-fn last_dead(n: usize, masks: &[u64], reaches: &[u8; 129], i: usize, d: usize) -> usize
+fn last_dead(n: usize, masks: &[u64], reaches: &[u8; STATES], i: usize, d: usize) -> usize
     requires { (n ≤ 128) × (length masks.now ≡ 512) × (nth reaches.now 0 ≡ 0) × (i < 128) }
     ensures { (result ≤ d) × (result ≤ i) × Behind reaches.now (calls_start_of n (code_in (line_at masks.now i))) result }
 {
@@ -53,7 +53,7 @@ fn extend(
     m: usize,
     n: usize,
     masks: &[u64],
-    reaches: &[u8; 129],
+    reaches: &[u8; STATES],
     t: &mut Ranks<'_, PLACES>,
     k: usize,
     d: usize,
@@ -66,7 +66,7 @@ fn extend(
     let i = m - 1 - k;
     let dead = last_dead(n, masks, reaches, i, d);
     births(t, dead, d, i + 1);
-    let mut agrees = [0u8; 129];
+    let mut agrees = [0u8; STATES];
     fill_agreements(masks, dead, i, &mut agrees);
     let fragment = Fragment {
         agrees: &agrees,
@@ -79,7 +79,7 @@ fn extend(
 }
 
 // All fragments, from a table of zeros.
-fn suffixes(m: usize, n: usize, masks: &[u64], reaches: &[u8; 129], t: &mut Ranks<'_, PLACES>)
+fn suffixes(m: usize, n: usize, masks: &[u64], reaches: &[u8; STATES], t: &mut Ranks<'_, PLACES>)
     requires { Prepared m n masks.now reaches.now
         × HoldsFragments (words_grid m n masks.now) 0 m (pairs t.old) }
     ensures { HoldsFragments (words_grid m n masks.now) m 0 (pairs t.new) }
@@ -95,7 +95,7 @@ pub(crate) fn least(
     m: usize,
     n: usize,
     masks: &[u64],
-    reaches: &[u8; 129],
+    reaches: &[u8; STATES],
     work: &mut [u16],
     keep: &mut [u8],
 ) -> usize
