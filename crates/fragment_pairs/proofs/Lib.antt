@@ -1,4 +1,3 @@
-pub mod OrderLaws
 pub mod CornerLaws
 pub mod PairLaws
 pub mod BirthLaws

@@ -4,8 +4,10 @@
 #![tactic(auto)]
 
 mod copying;
+mod fragment;
 mod rows;
 mod weights;
 
 pub use copying::births;
-pub use rows::layer;
+pub use fragment::{Fragment, STATES};
+pub use rows::{PLACES, layer};

@@ -8,7 +8,8 @@ use Prim.Native.Nat.{ℕ, suc, ◌+◌, ◌*◌, ◌^◌, ◌-◌, ◌≤◌, �
 use native.Mathlib.Nat.{le_refl}
 use native.Mathlib.Numerals.{add-one}
 use native.Mathlib.Omega.{arith}
-use lib.ListN.{length, replicate, length-replicate}
+use lib.ListN.{replicate, take}
+use Rattle.std.proofs.lemmas.List.{take-replicate}
 use Rattle.below.specs.Below.{bit, ◌<?◌}
 use Rattle.below.proofs.BelowLaws.{same_test, bit-marked, marked-bit}
 use Rattle.conflicts.specs.Choice.{marked}
@@ -17,9 +18,9 @@ use Rattle.conflicts.specs.Minimality.{everything}
 use Rattle.ranks.specs.declared.rank.Rank.{Rank}
 use Rattle.ranks.specs.Algorithm.Weight.{top, place, places_of, AtMost, removal}
 use Rattle.ranks.specs.Algorithm.Reading.{value}
-use Rattle.ranks.specs.Algorithm.Tables.{Cleared}
+use Rattle.ranks.specs.Algorithm.Tables.{weights_of}
 use Rattle.ranks.proofs.WeightLaws.{places-top, at_most-more}
-use Rattle.ranks.proofs.TableLaws.{parts-small, zeros-at}
+use Rattle.ranks.proofs.TableLaws.{parts-small, zeros-weights}
 use Rattle.fragment_states.specs.Algorithm.Fragments.{Between, state_reach_of, can_join}
 use Rattle.fragment_pairs.specs.Algorithm.Layer.{furthest, with_fragment_in}
 use Rattle.fragment_pairs.specs.Algorithm.Pairs.{corner, pairs, FragmentRoom, Made}
@@ -38,14 +39,10 @@ pub between-marks : (p : ℕ → Bool) (k n : ℕ) (list : List ℕ) → Between
 unfolding marked
 between-marks p k n list b s g h = rw (b.between s g h) (same_test (0 <? bit (p s)) (p s) (bit-marked (p s)) (marked-bit (p s)))
 
--- a table of zeros
-pub zeros-pairs : (before counts : List ℕ) → Cleared before counts → (h l : ℕ) → pairs counts (replicate 8385 0) (replicate 8385 0) h l ≡ 0
-zeros-pairs before counts e h l = subst (λ (x : List ℕ). pairs x (replicate 8385 0) (replicate 8385 0) h l ≡ 0) (sym e.zeros) (zeros-at (length before) 8385 8385 (corner h l))
-
--- a buffer of zeros
-pub cleared-as : {before new : List ℕ} (old : List ℕ) → Cleared before new → length new ≡ length old → new ≡ replicate (length old) 0
-cleared-as {before} old e same =
-    e.zeros ∙ ap (λ (x : ℕ). replicate {A = ℕ} x 0) (sym (length-replicate {A = ℕ} (length before) 0) ∙ ap length (sym e.zeros) ∙ same)
+-- a table of zeros, its counts the first places of a buffer of zeros
+pub zeros-pairs : {size : ℕ} {buffer counts table : List ℕ} → 8385 ≤ size → buffer ≡ replicate size 0 → counts ≡ take 8385 buffer → table ≡ weights_of counts (replicate 8385 0) (replicate 8385 0)
+    → (h l : ℕ) → pairs table h l ≡ 0
+zeros-pairs {size} room zeros first is h l = rw (is, first, zeros, take-replicate {X = ℕ} 8385 size 0 room) (zeros-weights 8385 8385 8385 (corner h l))
 
 module _ (g : Grid) where
   -- no fragment yet

@@ -10,10 +10,7 @@ use places::columns_conflict;
 fn letter_call(some: bool, letter: u8) -> u8
     ensures { result ≡ if some then letter else 0 }
 {
-    if some {
-        return letter;
-    }
-    0
+    if some { letter } else { 0 }
 }
 
 // Column c is mixed. Its tally takes one call of each letter that occurs: more calls of a letter change nothing.
@@ -32,8 +29,5 @@ pub(crate) fn may_follow(columns: &[u64], j: usize, c: usize) -> bool
     requires { (length columns.now ≡ 512) × (j ≤ c) × (c < 128) }
     ensures { result ≡ words_follow columns.now j c }
 {
-    if j == 0 {
-        return true;
-    }
-    !columns_conflict(line_at(columns, j - 1), line_at(columns, c))
+    j == 0 || !columns_conflict(line_at(columns, j - 1), line_at(columns, c))
 }

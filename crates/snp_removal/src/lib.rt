@@ -8,7 +8,8 @@ ghost use Rattle.masks.specs.Algorithm.Masks.{Masks, words_grid};
 ghost use Rattle.conflicts.specs.Removal.{snp_keep_marks_of};
 
 use masks::{fill_columns, mask_room};
-use ranks::table;
+use programme::STATES;
+use ranks::table::Ranks;
 
 mod columns;
 mod programme;
@@ -18,13 +19,16 @@ pub fn snp_keep_marks(m: usize, n: usize, masks: &[u64], keep: &mut [u8]) -> usi
     requires { (m ≤ 128) × (n ≤ 128) × (length masks.now ≡ 512) × Masks (words_grid m n masks.now) masks.now × Gapless (words_grid m n masks.now) × (length keep.old ≡ n) }
     ensures { (keep.new ≡ snp_keep_marks_of (words_grid m n masks.now)) × (result ≡ zeros (snp_keep_marks_of (words_grid m n masks.now))) }
 {
-    let mut counts = [0u16; 129];
-    let mut highs = [0u64; 129];
-    let mut lows = [0u64; 129];
+    let mut counts = [0u16; STATES];
+    let mut highs = [0u64; STATES];
+    let mut lows = [0u64; STATES];
+    let mut table = Ranks::new(&mut counts, &mut highs, &mut lows);
     let mut columns = mask_room();
     fill_columns(masks, &mut columns);
-    programme::suffixes(m, n, masks, &columns, &mut counts, &mut highs, &mut lows);
-    let r = table::get(&counts, &highs, &lows, 0);
-    programme::decode(r, n, keep);
-    r.count as usize
+    programme::suffixes(m, n, masks, &columns, &mut table);
+    let least = table.get(0);
+    for (p, mark) in keep.iter_mut().enumerate() {
+        *mark = 1 - least.digit(p);
+    }
+    least.count as usize
 }

@@ -1,10 +1,10 @@
 -- The table of weights over pairs of states, each pair once, and loops that go through it in place.
 -- Assumes nothing.
-use Rattle.std.specs.Prelude.{◌≡◌, List, ℕ, ◌+◌, ◌*◌, ◌-◌, ◌/◌, ◌≤◌, ◌<◌, min, max, length}
+use Rattle.std.specs.Prelude.{◌≡◌, List, ℕ, ◌+◌, ◌*◌, ◌-◌, ◌/◌, ◌≤◌, ◌<◌, min, max}
+use Rattle.below.specs.Below.{nth}
 use Rattle.ranks.specs.declared.rank.Rank.{Rank}
 use Rattle.ranks.specs.Algorithm.Weight.{top, AtMost}
 use Rattle.ranks.specs.Algorithm.Reading.{code}
-use Rattle.ranks.specs.Algorithm.Tables.{at}
 
 -- where the row of state h begins: the rows before it have 1, …, h places
 unfoldable pub row_start_of : ℕ → ℕ
@@ -15,18 +15,12 @@ unfoldable pub corner : ℕ → ℕ → ℕ
 corner h l = row_start_of (max h l) + min h l
 
 -- the weight at states h and l
-abbrev pub pairs : List ℕ → List ℕ → List ℕ → ℕ → ℕ → ℕ
-pairs counts highs lows h l = at counts highs lows (corner h l)
+abbrev pub pairs : List ℕ → ℕ → ℕ → ℕ
+pairs table h l = nth table (corner h l)
 
 -- weights over pairs of states, by their places in the row of state h
 abbrev pub along : (ℕ → ℕ → ℕ) → ℕ → ℕ → ℕ
 along f h j = f h (j - row_start_of h)
-
--- the tables have a place for each pair of states
-pub record PairPlaces (counts highs lows : List ℕ) : Type 0 where
-  pub counts_size : 8385 ≤ length counts
-  pub highs_size : 8385 ≤ length highs
-  pub lows_size : 8385 ≤ length lows
 
 -- weights that have room for the fragment's own; `far` has it
 pub record Fits (own : Rank) (far one rest : ℕ) : Type 0 where

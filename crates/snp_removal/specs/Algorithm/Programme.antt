@@ -1,6 +1,6 @@
 -- The least weight of the columns removed, by recursion on the columns that remain (paper 001, section 5.1).
 -- Assumes nothing.
-use Rattle.std.specs.Prelude.{◌≡◌, ℕ, zero, suc, ◌+◌, ◌-◌, ◌≤◌, min, Bool, true, List, length, if◌then◌else◌}
+use Rattle.std.specs.Prelude.{◌≡◌, ℕ, zero, suc, ◌+◌, ◌-◌, ◌≤◌, min, Bool, true, if◌then◌else◌}
 use Rattle.conflicts.specs.Grid.{Grid, mixed}
 use Rattle.ranks.specs.Algorithm.Weight.{removal, place, AtMost}
 use Rattle.snp_removal.specs.Algorithm.Columns.{can_follow}
@@ -19,12 +19,6 @@ least_column_weight g (suc k) j =
 -- what the mixed column i makes of a table of weights, at state j, which it may follow or not
 abbrev pub if_follows : Bool → ℕ → (ℕ → ℕ) → ℕ → ℕ
 if_follows may i v j = choose_column true may (removal i) (v (i + 1)) (v j)
-
--- the tables have a place for each state
-pub record States (counts highs lows : List ℕ) : Type 0 where
-  pub counts_size : length counts ≡ 129
-  pub highs_size : length highs ≡ 129
-  pub lows_size : length lows ≡ 129
 
 -- the weights at the states up to column i have room for column i
 pub record ColumnRoom (i : ℕ) (v : ℕ → ℕ) : Type 0 where

@@ -1,16 +1,12 @@
 -- `copying::birth` meets its contract. The loop's invariant: state s has the weights of the next state with the states below h.
-use mathlib.Core.Path.{refl}
 use Prim.Native.Nat.{ℕ, ◌+◌, ◌≤◌, ◌<◌}
 use native.Mathlib.Nat.{le_refl}
 use native.Mathlib.Omega.{arith}
 use borrow.Author.Rules.{rules}
 use Rattle.fragment_pairs.proofs.CornerLaws.{row_inside}
-use Rattle.fragment_pairs.proofs.BirthLaws.{born-none, born-more, born-all}
+use Rattle.fragment_pairs.proofs.BirthLaws.{born-more, born-all}
 use Rattle.fragment_pairs.proofs.copying.birth.Goals as goal
 use Rattle.fragment_pairs.proofs.copying.birth.Goals.{After-row_start-own, After-row_start-start}
-
-pub loop-h-init : goal.loop-h-init
-loop-h-init c = (search rules, search rules, refl, refl, refl, born-none _ _)
 
 -- the places of a row are in the table
 inside : (c : After-row_start-start) (l : ℕ) → l ≤ c.loop-h.h → c.row_start-start.result + l < 8385
@@ -24,19 +20,13 @@ overflow_add-start-in-loop-h c = let k = inside (goal.at.overflow_add-start-in-l
 
 pub copy-requires : goal.copy-requires
 copy-requires c =
-    let p = c.requires in
-    let from = inside (goal.at.copy-requires c).After-row_start-start (c.args.s + 1) (omega arith) in
-    let j = inside (goal.at.copy-requires c).After-row_start-start c.args.s (omega arith) in (
-      record { in_counts = let z = p.0.counts_size in search rules; in_highs = let z = p.0.highs_size in search rules; in_lows = let z = p.0.lows_size in search rules },
-      record { in_counts = let z = p.0.counts_size in search rules; in_highs = let z = p.0.highs_size in search rules; in_lows = let z = p.0.lows_size in search rules },
-    )
+    let at = (goal.at.copy-requires c).After-row_start-start in
+    (search rules, (inside at (c.args.s + 1) (omega arith), inside at c.args.s (omega arith)))
 
 pub loop-h-preserved : goal.loop-h-preserved
 loop-h-preserved c =
-    let copy = c.copy in
     let l = c.loop-h in
-    let a = c.args in
-    (search rules, search rules, search rules, search rules, search rules, born-more a.s l.h l.invariant.5 l.invariant.0 c.row_start-start.ensures copy.ensures)
+    born-more c.args.s l.h l.invariant (omega arith) c.row_start-start.ensures c.copy.ensures
 
 -- the places of the pairs of each state with itself are in the table
 inside-own : (c : After-row_start-own) → (c.row_start-other.result + (c.args.s + 1) < 8385) × (c.row_start-own.result + c.args.s < 8385)
@@ -51,15 +41,9 @@ pub overflow_add-own : goal.overflow_add-own
 overflow_add-own c = let k = inside-own (goal.at.overflow_add-own c).After-row_start-own in search rules
 
 pub copy-requires-2 : goal.copy-requires-2
-copy-requires-2 c =
-    let p = c.requires in
-    let k = inside-own (goal.at.copy-requires-2 c).After-row_start-own in (
-      record { in_counts = let z = p.0.counts_size in search rules; in_highs = let z = p.0.highs_size in search rules; in_lows = let z = p.0.lows_size in search rules },
-      record { in_counts = let z = p.0.counts_size in search rules; in_highs = let z = p.0.highs_size in search rules; in_lows = let z = p.0.lows_size in search rules },
-    )
+copy-requires-2 c = (search rules, inside-own (goal.at.copy-requires-2 c).After-row_start-own)
 
 pub returns : goal.returns
 returns c =
     let l = c.loop-h in
-    let a = c.args in
-    born-all a.s a.n l.h l.invariant.5 c.loop-h-test.false c.row_start-own.ensures c.row_start-other.ensures c.copy-2.ensures
+    born-all c.args.s c.args.n l.h l.invariant (omega arith) c.row_start-own.ensures c.row_start-other.ensures c.copy-2.ensures

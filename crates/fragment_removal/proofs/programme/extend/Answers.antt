@@ -19,37 +19,29 @@ unfolding words_grid state_reach_of
 last_dead-dead-requires c =
     let p = c.requires.0 in
     let few = p.few in
-    (p.masks.narrow, p.words_size, p.reaches_size, p.reaching.begins 0 (omega arith), omega arith)
+    (p.masks.narrow, p.words_size, p.reaching.begins 0 (omega arith), omega arith)
 
 pub births-requires : goal.births-requires
 births-requires c =
     let few = c.requires.0.few in
-    let dead = c.last_dead-dead.ensures.0 in (c.requires.3, omega arith, search rules, omega arith)
+    let dead = c.last_dead-dead.ensures.0 in (omega arith, omega arith, omega arith)
 
 pub fill_agreements-requires : goal.fill_agreements-requires
 fill_agreements-requires c = let p = c.requires.0 in let h = p.few in (p.words_size, omega arith, search rules)
 
-pub single-own-requires : goal.single-own-requires
-single-own-requires c = let h = c.requires.0.few in omega arith
-
 pub layer-requires : goal.layer-requires
 unfolding words_grid
 layer-requires c =
-    let own = c.single-own in
+    let own = c.single in
     let births = c.births in
     let dead = c.last_dead-dead in
     let a = c.args in
     let p = c.requires.0 in
     let g = words_grid a.m a.n a.masks.now in
     let i = a.m - 1 - a.k in
-    let z = c.requires.3 in
     let few = p.few in
-    let held = holds-born g a.k a.d (omega arith) c.requires.4 (pairs a.counts.now a.highs.now a.lows.now) _ dead.result (i + 1) c.requires.2 (omega arith) c.requires.5 births.ensures in (
-      record { counts_size = let x = z.counts_size in search rules; highs_size = let x = z.highs_size in search rules; lows_size = let x = z.lows_size in search rules },
-      search rules,
-      p.reaches_size,
+    let held = holds-born g a.k a.d (omega arith) c.requires.3 (pairs a.t.now) _ dead.result (i + 1) c.requires.2 (omega arith) c.requires.4 births.ensures in (
       dead.ensures.1,
-      omega arith,
       holds-room g a.k i dead.result _ c.requires.1 refl held few own.result own.type_inv.1.1.1.0.1 own.type_inv.1.1.1.1.0.1 (removal-of i own.ensures),
     )
 
@@ -57,7 +49,7 @@ pub returns : goal.returns
 unfolding words_grid
 returns c =
     let layer = c.layer in
-    let own = c.single-own in
+    let own = c.single in
     let fill-agreements = c.fill_agreements in
     let births = c.births in
     let dead = c.last_dead-dead in
@@ -65,9 +57,9 @@ returns c =
     let p = c.requires.0 in
     let g = words_grid a.m a.n a.masks.now in
     let i = a.m - 1 - a.k in
-    let held = holds-born g a.k a.d (omega arith) c.requires.4 (pairs a.counts.now a.highs.now a.lows.now) _ dead.result (i + 1) c.requires.2 (omega arith) c.requires.5 births.ensures in (
+    let held = holds-born g a.k a.d (omega arith) c.requires.3 (pairs a.t.now) _ dead.result (i + 1) c.requires.2 (omega arith) c.requires.4 births.ensures in (
       let h = dead.ensures.1 in omega arith,
-      dead-more g a.k a.d (omega arith) c.requires.4 a.reaches.now dead.result i _ dead.ensures.0 c.requires.1 refl p.reaching.begins dead.ensures.1 refl dead.ensures.2,
+      dead-more g a.k a.d (omega arith) c.requires.3 a.reaches.now dead.result i _ dead.ensures.0 c.requires.1 refl p.reaching.begins dead.ensures.1 refl dead.ensures.2,
       holds_more g a.k i dead.result _ c.requires.1 refl held _ (nth a.reaches.now) (value own.result) _
           (λ q lo h. between-marks (λ q. words_join a.masks.now q i) _ _ _ fill-agreements.ensures q lo h ∙ words-join g a.masks.now q i p.masks (omega arith) (omega (arith, c.requires.1)))
           p.reaching.begins (removal-of i own.ensures) layer.ensures,

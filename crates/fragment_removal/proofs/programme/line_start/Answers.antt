@@ -8,6 +8,6 @@ pub returns-then-first-lt128 : goal.returns-then-first-lt128
 returns-then-first-lt128 c =
     c.lowest-first.ensures ∙ first-called c.args.n c.args.line c.requires c.calls_below.ensures (rw (← c.lowest-first.ensures) c.if-first-lt128.true)
 
-pub returns : goal.returns
-returns c =
+pub returns-else-first-lt128 : goal.returns-else-first-lt128
+returns-else-first-lt128 c =
     never-called c.args.n c.args.line c.requires c.calls_below.ensures (rw (← c.lowest-first.ensures) c.if-first-lt128.false)

@@ -3,7 +3,7 @@
 use borrow.Author.Rules.{rules}
 use mathlib.Core.Path.{◌≡◌}
 use Rattle.ranks.specs.Algorithm.Reading.{value}
-use Rattle.ranks.specs.Algorithm.Tables.{at}
+use Rattle.below.specs.Below.{nth}
 use Rattle.snp_removal.specs.Algorithm.Columns.{words_follow}
 use Rattle.snp_removal.specs.Algorithm.Programme.{if_follows}
 use Rattle.snp_removal.proofs.StateLaws.{sum_fits, count_fits, mixed-weight}
@@ -11,13 +11,13 @@ use Rattle.snp_removal.proofs.programme.weight_at.Goals as goal
 
 pub plus-gone-requires : goal.plus-gone-requires
 plus-gone-requires c =
-    sum_fits c.args.i c.args.out c.get-here.result c.requires.1 (search rules) (search rules) (search rules) (search rules) c.requires.3 c.get-here.ensures c.requires.5
+    sum_fits c.args.i c.args.out c.get.result c.requires.1 (search rules) (search rules) (search rules) (search rules) c.requires.3 c.get.ensures c.requires.4
 
 pub returns : goal.returns
 returns c =
     let a = c.args in
-    let v = at a.counts.now a.highs.now a.lows.now in
+    let v = nth a.t.now in
     let may = words_follow a.columns.now a.j a.i in
     let is : value c.lesser_if.result ≡ if_follows may a.i v a.j =
-    mixed-weight a.i a.j v _ may c.may_follow.ensures c.get-here.ensures c.requires.3 c.get-kept.ensures c.plus-gone.ensures c.lesser_if.ensures in
-    (is, count_fits may a.i a.j v c.lesser_if.result c.requires.1 (search rules) (search rules) is c.requires.5 c.requires.6)
+    mixed-weight a.i a.j v _ may c.may_follow.ensures c.get.ensures c.requires.3 c.get-2.ensures c.plus-gone.ensures c.lesser_if.ensures in
+    (is, count_fits may a.i a.j v c.lesser_if.result c.requires.1 (search rules) (search rules) is c.requires.4 c.requires.5)

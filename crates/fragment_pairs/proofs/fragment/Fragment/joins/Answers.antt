@@ -1,9 +1,9 @@
--- `weights::is_marked` meets its contract.
+-- `Fragment::joins` meets its contract.
 -- Assumes nothing.
 use mathlib.Core.Path.{refl}
 use Rattle.below.specs.Below.{◌<?◌}
 use Rattle.conflicts.specs.Choice.{marked}
-use Rattle.fragment_pairs.proofs.weights.is_marked.Goals as goal
+use Rattle.fragment_pairs.proofs.fragment.Fragment.joins.Goals as goal
 
 pub returns : goal.returns
 unfolding marked ◌<?◌
