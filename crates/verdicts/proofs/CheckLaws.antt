@@ -21,6 +21,7 @@ use Rattle.conflicts.specs.Sides.{error_free, first_sides_of}
 use Rattle.conflicts.specs.Answer.{answer_size, answer, check_answer}
 use Rattle.conflicts.specs.Services.{written_on_yes, length_rule, check_rules, check_leaves}
 use Rattle.conflicts.proofs.Outcomes.{check-refused, check-yes, check-no, check-answer}
+use Rattle.places.specs.declared.lines.Line.{Line}
 use Rattle.masks.specs.Algorithm.Masks.{Masks, mask_words, LetteredTable}
 use Rattle.masks.proofs.RecordLaws.{kept-letters}
 use Rattle.masks.proofs.TableLaws.{table-masks}
@@ -34,7 +35,7 @@ use Rattle.records.proofs.AcceptedLaws.{sized-count}
 -- ---- the masks
 
 -- what phasing the masks left, said of the table
-pub table-found : {n m : ℕ} {table words cols frags before after : List ℕ} {ok : Bool} → SizesKept n m table → RecordsKept n table
+pub table-found : {n m : ℕ} {table cols frags before after : List ℕ} {words : List Line} {ok : Bool} → SizesKept n m table → RecordsKept n table
     → ((k : ℕ) → LetteredTable k table → words ≡ mask_words (grid_of k table)) → cols ≡ keep_all n → frags ≡ keep_all m
     → ((g : Grid) → Masks g words → m ≡ g.m → n ≡ g.n → AnswerFound g cols frags ok before after) → AnswerFound (grid_of n table) (keep_all n) (keep_all m) ok before after
 unfolding grid_of

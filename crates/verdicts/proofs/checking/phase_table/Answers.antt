@@ -8,16 +8,15 @@ use native.Mathlib.Omega.{arith}
 use lib.ListN.{length, length-replicate}
 use mathlib.Core.Path.{ap, ◌∙◌}
 use Rattle.records.proofs.AcceptedLaws.{sized-n, sized-m}
-use borrow.Author.Rules.{rules}
 use Rattle.verdicts.proofs.checking.phase_table.Goals as goal
 
-pub slice_bounds-phase-end-2 : goal.slice_bounds-phase-end-2
-slice_bounds-phase-end-2 c =
+pub slice_bounds-phase-end : goal.slice_bounds-phase-end
+slice_bounds-phase-end c =
     let e = ap length c.all_kept-cols.ensures ∙ length-replicate {A = ℕ} 128 1 in
     let h = sized-n c.args.table.sized.sizes in omega arith
 
-pub slice_bounds-phase-end-3 : goal.slice_bounds-phase-end-3
-slice_bounds-phase-end-3 c =
+pub slice_bounds-phase-end-2 : goal.slice_bounds-phase-end-2
+slice_bounds-phase-end-2 c =
     let e = ap length c.all_kept-frags.ensures ∙ length-replicate {A = ℕ} 128 1 in
     let h = sized-m c.args.table.sized.sizes in omega arith
 
@@ -27,7 +26,6 @@ phase-requires c =
       record {
         few = sized-m t.sizes;
         narrow = sized-n t.sizes;
-        long = search rules;
         columns = ap length (all-kept-part t.n _ (sized-n t.sizes) c.all_kept-cols.ensures) ∙ all-length t.n;
         fragments = ap length (all-kept-part t.m _ (sized-m t.sizes) c.all_kept-frags.ensures) ∙ all-length t.m;
       },
