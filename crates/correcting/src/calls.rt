@@ -3,7 +3,7 @@ ghost use Rattle.std.specs.Prelude.{◌≡◌, ◌*◌, ◌≤◌, length};
 ghost use Rattle.records.specs.Outcome.{outcome_of};
 ghost use Rattle.below.specs.Below.{nth};
 ghost use Rattle.fields.specs.Table.{fragments};
-ghost use Rattle.conflicts.specs.Choice.{marked, keep_all};
+ghost use Rattle.conflicts.specs.Choice.{marked};
 ghost use Rattle.conflicts.specs.Grid.{grid_of};
 ghost use Rattle.matrix.specs.Algorithm.Matrix.{matrix_grid, Matrix};
 ghost use Rattle.conflicts.specs.Corrections.{changed_total};
@@ -63,36 +63,7 @@ fn answer_sides(n: usize, m: usize, table: &[u8], cols: &[u8], sides: &[u8], byt
     fill_answer(m, n, &masks, cols, sides, bytes);
 }
 
-// Settles the sides, and writes the answer and the records after correction. The sides and the corrected cells are scratch.
-fn correct_calls(
-    n: usize,
-    m: usize,
-    table: &[u8],
-    cells: &[u8],
-    starts: &[usize],
-    ends: &[usize],
-    cols: &[u8],
-    sides: &mut [u8],
-    fixed: &mut [u8],
-    answer: &mut [u8],
-    corrected: &mut [u8],
-) -> usize
-    requires sizes_kept { SizesKept n m table.now × RecordsKept n table.now }
-    requires cells_value { (cells.now ≡ table_cells n table.now) × (cols.now ≡ keep_all n) }
-    requires spanned { Spanned (matrix_grid m n cells.now) starts.now ends.now × NoneDeep (matrix_grid m n cells.now) }
-    requires sides_len { (length sides.old ≡ m) × (length fixed.old ≡ 16384) }
-    requires answer_len { (length answer.old ≡ answer_size m n) × (length corrected.old ≡ 32 * m) }
-    ensures total { result ≡ changed_total (grid_of n table.now) (grid_of n (corrected_table n table.now)) }
-    ensures answer { answer.new ≡ correction_answer (grid_of n table.now) }
-    ensures corrected { corrected.new ≡ corrected_table n table.now }
-{
-    let total = settle(n, m, table, cells, starts, ends, sides, fixed);
-    fill_records(table, fixed, corrected);
-    answer_sides(n, m, corrected, cols, sides, answer);
-    total
-}
-
-// The total of the corrected calls, the answer and the corrected records, of a table without a column that is too deep.
+// Settles the sides, and writes the answer and the records after correction, of a table without a column that is too deep: the total of the corrected calls.
 fn correct_table(
     n: usize,
     m: usize,
@@ -111,54 +82,17 @@ fn correct_table(
     ensures answer { answer.new ≡ correction_answer (grid_of n table.now) }
     ensures corrected { corrected.new ≡ corrected_table n table.now }
 {
-    let cols = all_kept();
-    let mut sides = all_kept();
+    let mut frags = all_kept();
+    let sides = &mut frags[0..m];
     let mut fixed = blank_cells();
-    correct_calls(
-        n,
-        m,
-        table,
-        cells,
-        starts,
-        ends,
-        &cols[0..n],
-        &mut sides[0..m],
-        &mut fixed,
-        answer,
-        corrected,
-    )
+    let total = settle(n, m, table, cells, starts, ends, sides, &mut fixed);
+    fill_records(table, &fixed, corrected);
+    let cols = all_kept();
+    answer_sides(n, m, corrected, &cols[0..n], sides, answer);
+    total
 }
 
-// C over the cell matrix, once every other rule is kept: 12, or the work.
-fn correct_shallow(
-    n: usize,
-    m: usize,
-    table: &[u8],
-    cells: &[u8],
-    work: &mut [u16],
-    answer: &mut [u8],
-    corrected: &mut [u8],
-) -> Result<usize, Refusal>
-    requires correction_kept { CorrectionKept n m table.now answer.old corrected.old work.old }
-    requires cells_value { cells.now ≡ table_cells n table.now }
-    ensures outcome { outcome_of result ≡ (corrections_leaves n table.now answer.old corrected.old work.old).outcome }
-    ensures work { work.new ≡ (corrections_leaves n table.now answer.old corrected.old work.old).work }
-    ensures answer { answer.new ≡ (corrections_leaves n table.now answer.old corrected.old work.old).answer }
-    ensures corrected { corrected.new ≡ (corrections_leaves n table.now answer.old corrected.old work.old).table }
-{
-    let mut starts = [0usize; 128];
-    let mut ends = [0usize; 128];
-    fill_spans(m, n, cells, &mut starts, &mut ends);
-    let deep = first_deep(m, n, &starts, &ends);
-    if deep < n {
-        return Err(Fault::TooDeep.at(deep));
-    }
-    let total = correct_table(n, m, table, cells, &starts, &ends, answer, corrected);
-    table::clear(work);
-    Ok(total)
-}
-
-// C once every rule but 12 is kept.
+// C once every rule but 12 is kept: 12, or the work.
 fn correct_kept(
     n: usize,
     m: usize,
@@ -175,7 +109,16 @@ fn correct_kept(
 {
     let mut cells = blank_cells();
     fill_matrix(n, table, &mut cells);
-    correct_shallow(n, m, table, &cells, work, answer, corrected)
+    let mut starts = [0usize; 128];
+    let mut ends = [0usize; 128];
+    fill_spans(m, n, &cells, &mut starts, &mut ends);
+    let deep = first_deep(m, n, &starts, &ends);
+    if deep < n {
+        return Err(Fault::TooDeep.at(deep));
+    }
+    let total = correct_table(n, m, table, &cells, &starts, &ends, answer, corrected);
+    table::clear(work);
+    Ok(total)
 }
 
 // Accepted with the total of the corrected calls, each by its fragment's weight, the answer's 3n + 2m bytes, the 32m bytes of the corrected records, and the work all zero. A refusal writes nothing. Takes 47 KB of stack.
