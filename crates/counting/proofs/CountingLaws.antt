@@ -24,6 +24,7 @@ use Rattle.conflicts.proofs.Outcomes.{counts-refused}
 use Rattle.conflicts.proofs.SideLaws.{kept-all}
 use Rattle.places.specs.declared.places.Places.{Places}
 use Rattle.places.specs.Algorithm.Places.{places_where}
+use Rattle.places.specs.declared.lines.Line.{Line}
 use Rattle.masks.specs.Algorithm.Masks.{mask_words, LetteredTable}
 use Rattle.masks.specs.Algorithm.Pairs.{pair_matrix, Compared}
 use Rattle.masks.proofs.RecordLaws.{kept-letters}
@@ -47,7 +48,7 @@ rows_at m matrix i j e hi hj = sym (ap (λ (k : ℕ). nth (rows_of m matrix) (k 
 
 module _ (n m : ℕ) (table : List ℕ) (sized : SizesKept n m table) (kept : RecordsKept n table) where
   -- the rows of the matrix of all pairs
-  pub rows-count : {words cols frags matrix : List ℕ} {keep : Places} → ((k : ℕ) → LetteredTable k table → words ≡ mask_words (grid_of k table)) → cols ≡ keep_all n → frags ≡ keep_all m
+  pub rows-count : {words : List Line} {cols frags matrix : List ℕ} {keep : Places} → ((k : ℕ) → LetteredTable k table → words ≡ mask_words (grid_of k table)) → cols ≡ keep_all n → frags ≡ keep_all m
       → keep ≡ places_where (marked cols) → matrix ≡ pair_matrix words keep frags → rows_of m matrix ≡ conflict_counts_of (grid_of n table)
   unfolding rows_of conflict_counts_of grid_of
   rows-count {words} {cols} {frags} {matrix} {keep} are ek ef ep em =

@@ -1,7 +1,6 @@
 // conflict_counts: on how many columns each two fragments conflict.
 ghost use Rattle.std.specs.Prelude.{◌≡◌, ◌*◌, ◌≤◌, length};
 ghost use Rattle.records.specs.Outcome.{outcome_of};
-ghost use Rattle.records.specs.Algorithm.Kept.{SizesKept, RecordsKept};
 ghost use Rattle.conflicts.specs.Grid.{grid_of};
 ghost use Rattle.conflicts.specs.Counts.{conflict_counts_of};
 ghost use Rattle.conflicts.specs.Services.{conflict_counts_leaves};
@@ -10,7 +9,7 @@ ghost use Rattle.counting.specs.Meanings.{ConflictCountsSay};
 
 use masks::{fill_masks, fill_pairs, kept, mask_room};
 use matrix::{all_kept, blank_cells};
-use records::{Fault, Refusal, records_fault, size_fault};
+use records::{Fault, Refusal, SizedTable, SoundTable};
 
 // Writes the first m numbers of the first m rows of a matrix, 128 to a row.
 fn copy_rows(m: usize, matrix: &[u8], counts: &mut [u8])
@@ -26,30 +25,29 @@ fn copy_rows(m: usize, matrix: &[u8], counts: &mut [u8])
 }
 
 // Writes the m × m numbers of a table.
-fn count_table(n: usize, m: usize, table: &[u8], counts: &mut [u8])
-    requires sizes_kept { SizesKept n m table.now × RecordsKept n table.now }
-    requires counts_len { length counts.old ≡ m * m }
-    ensures { counts.new ≡ conflict_counts_of (grid_of n table.now) }
+fn count_table(table: SoundTable<'_>, counts: &mut [u8])
+    requires { length counts.old ≡ table.sized.m * table.sized.m }
+    ensures { counts.new ≡ conflict_counts_of (grid_of table.entry.sized.n table.entry.sized.bytes.now) }
 {
+    let SizedTable { n, m, bytes } = table.sized;
     let mut masks = mask_room();
     let mut matrix = blank_cells();
     let all = all_kept();
-    fill_masks(table, &mut masks);
+    fill_masks(bytes, &mut masks);
     fill_pairs(&masks, kept(&all[0..n]), &all[0..m], &mut matrix);
     copy_rows(m, &matrix, counts);
 }
 
 // conflict_counts once the sizes are kept: the counts' length, then the records.
-fn counts_sized(n: usize, m: usize, table: &[u8], counts: &mut [u8]) -> Result<usize, Refusal>
-    requires { SizesKept n m table.now }
-    ensures outcome { outcome_of result ≡ (conflict_counts_leaves n table.now counts.old).outcome }
-    ensures counts { counts.new ≡ (conflict_counts_leaves n table.now counts.old).counts }
+fn counts_sized(table: SizedTable<'_>, counts: &mut [u8]) -> Result<usize, Refusal>
+    ensures outcome { outcome_of result ≡ (conflict_counts_leaves table.entry.n table.entry.bytes.now counts.old).outcome }
+    ensures counts { counts.new ≡ (conflict_counts_leaves table.entry.n table.entry.bytes.now counts.old).counts }
 {
+    let m = table.m;
     if counts.len() != m * m {
         return Err(Fault::WrongBuffer.at(0));
     }
-    records_fault(n, table)?;
-    count_table(n, m, table, counts);
+    count_table(table.sound()?, counts);
     Ok(m)
 }
 
@@ -59,6 +57,6 @@ pub fn conflict_counts(n: usize, table: &[u8], counts: &mut [u8]) -> Result<usiz
     ensures counts { counts.new ≡ (conflict_counts_leaves n table.now counts.old).counts }
     ensures meaning { ConflictCountsSay n table.now counts.new (outcome_of result) }
 {
-    let m = size_fault(n, table)?;
-    counts_sized(n, m, table, counts)
+    let table = SizedTable::read(n, table)?;
+    counts_sized(table, counts)
 }

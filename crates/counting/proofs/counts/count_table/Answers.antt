@@ -13,22 +13,20 @@ use Rattle.counting.proofs.counts.count_table.Goals as goal
 pub slice_bounds-kept-end : goal.slice_bounds-kept-end
 slice_bounds-kept-end c =
     let e = ap length c.all_kept-all.ensures ∙ length-replicate {A = ℕ} 128 1 in
-    let h = sized-n c.requires.sizes_kept.0 in omega arith
+    let h = sized-n c.args.table.sized.sizes in omega arith
 
-pub slice_bounds-fill_pairs-end-2 : goal.slice_bounds-fill_pairs-end-2
-slice_bounds-fill_pairs-end-2 c =
+pub slice_bounds-fill_pairs-end : goal.slice_bounds-fill_pairs-end
+slice_bounds-fill_pairs-end c =
     let e = ap length c.all_kept-all.ensures ∙ length-replicate {A = ℕ} 128 1 in
-    let h = sized-m c.requires.sizes_kept.0 in omega arith
+    let h = sized-m c.args.table.sized.sizes in omega arith
 
 pub copy_rows-requires : goal.copy_rows-requires
-copy_rows-requires c =
-    (sized-m c.requires.sizes_kept.0, search rules, c.requires.counts_len)
+copy_rows-requires c = (sized-m c.args.table.sized.sizes, search rules, c.requires)
 
 pub returns : goal.returns
 returns c =
-    let a = c.args in
-    let sized = c.requires.sizes_kept.0 in
+    let t = c.args.table.sized in
     let all = c.all_kept-all.ensures in
     c.copy_rows.ensures
-    ∙ rows-count a.n a.m a.table.now sized c.requires.sizes_kept.1 c.fill_masks.ensures (all-kept-part a.n _ (sized-n sized) all) (all-kept-part a.m _ (sized-m sized) all)
+    ∙ rows-count t.n t.m t.bytes.now t.sizes (record { count = _; kept = c.args.table.records }) c.fill_masks.ensures (all-kept-part t.n _ (sized-n t.sizes) all) (all-kept-part t.m _ (sized-m t.sizes) all)
     c.kept.ensures c.fill_pairs.ensures
