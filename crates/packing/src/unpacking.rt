@@ -3,10 +3,9 @@ ghost use Rattle.std.specs.Prelude.{◌≡◌, ◌*◌, length};
 ghost use Rattle.fields.specs.Table.{fragments, unpacked_cells, unpacked_tags, unpacked_grades};
 ghost use Rattle.records.specs.Outcome.{outcome_of};
 ghost use Rattle.conflicts.specs.Services.{unpack_leaves};
-ghost use Rattle.records.specs.Algorithm.Kept.{SizesKept};
 
 use fields::{fill_row, grade, record_at, tag};
-use records::{Fault, Refusal, records_fault, size_fault};
+use records::{Fault, Refusal, SizedTable};
 
 // Writes the row of n cells, the tag and the grade of each record.
 fn fill(n: usize, table: &[u8], cells: &mut [u8], tags: &mut [u32], grades: &mut [u8])
@@ -29,24 +28,22 @@ fn fill(n: usize, table: &[u8], cells: &mut [u8], tags: &mut [u32], grades: &mut
 
 // Unpack once the sizes are kept: the outputs' lengths, then the records.
 fn unpack_sized(
-    n: usize,
-    m: usize,
-    table: &[u8],
+    table: SizedTable<'_>,
     cells: &mut [u8],
     tags: &mut [u32],
     grades: &mut [u8],
 ) -> Result<usize, Refusal>
-    requires { SizesKept n m table.now }
-    ensures outcome { outcome_of result ≡ (unpack_leaves n table.now cells.old tags.old grades.old).outcome }
-    ensures cells { cells.new ≡ (unpack_leaves n table.now cells.old tags.old grades.old).cells }
-    ensures tags { tags.new ≡ (unpack_leaves n table.now cells.old tags.old grades.old).tags }
-    ensures grades { grades.new ≡ (unpack_leaves n table.now cells.old tags.old grades.old).grades }
+    ensures outcome { outcome_of result ≡ (unpack_leaves table.entry.n table.entry.bytes.now cells.old tags.old grades.old).outcome }
+    ensures cells { cells.new ≡ (unpack_leaves table.entry.n table.entry.bytes.now cells.old tags.old grades.old).cells }
+    ensures tags { tags.new ≡ (unpack_leaves table.entry.n table.entry.bytes.now cells.old tags.old grades.old).tags }
+    ensures grades { grades.new ≡ (unpack_leaves table.entry.n table.entry.bytes.now cells.old tags.old grades.old).grades }
 {
+    let SizedTable { n, m, bytes } = table;
     if cells.len() != m * n || tags.len() != m || grades.len() != m {
         return Err(Fault::WrongBuffer.at(0));
     }
-    records_fault(n, table)?;
-    fill(n, table, cells, tags, grades);
+    table.sound()?;
+    fill(n, bytes, cells, tags, grades);
     Ok(m)
 }
 
@@ -63,6 +60,6 @@ pub fn unpack(
     ensures tags { tags.new ≡ (unpack_leaves n table.now cells.old tags.old grades.old).tags }
     ensures grades { grades.new ≡ (unpack_leaves n table.now cells.old tags.old grades.old).grades }
 {
-    let m = size_fault(n, table)?;
-    unpack_sized(n, m, table, cells, tags, grades)
+    let table = SizedTable::read(n, table)?;
+    unpack_sized(table, cells, tags, grades)
 }
