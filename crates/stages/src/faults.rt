@@ -5,36 +5,28 @@ ghost use Rattle.fields.specs.Table.{fragments};
 ghost use Rattle.records.specs.Outcome.{outcome_of, accepted};
 ghost use Rattle.records.specs.Rules.{decide};
 ghost use Rattle.conflicts.specs.Services.{removal_rules, lent_stages, correction_stages};
-ghost use Rattle.records.specs.Algorithm.Kept.{SizesKept};
 
-use records::{Fault, Refusal, gapless_fault, records_fault, size_fault};
+use records::{Fault, Refusal, SizedTable, gapless_fault, records_fault};
 
 // The work's and the answer's lengths, once the sizes are kept: 10, 11.
-fn lengths_fault(
-    n: usize,
-    m: usize,
-    table: &[u8],
-    work: &[u16],
-    answer: &[u8],
-) -> Result<usize, Refusal>
-    requires { SizesKept n m table.now }
-    ensures { outcome_of result ≡ decide (concat (lent_stages n table.now answer.now work.now)) (accepted (fragments table.now)) }
+fn lengths_fault(table: SizedTable<'_>, work: &[u16], answer: &[u8]) -> Result<usize, Refusal>
+    ensures { outcome_of result ≡ decide (concat (lent_stages table.entry.n table.entry.bytes.now answer.now work.now)) (accepted (fragments table.entry.bytes.now)) }
 {
     if work.len() < 32768 {
         return Err(Fault::ShortWork.at(0));
     }
-    if answer.len() != 3 * n + 2 * m {
+    if answer.len() != 3 * table.n + 2 * table.m {
         return Err(Fault::WrongBuffer.at(0));
     }
-    Ok(m)
+    Ok(table.m)
 }
 
 // The sizes and those lengths: 3, 1, 2, 10, 11.
 fn lent_fault(n: usize, table: &[u8], work: &[u16], answer: &[u8]) -> Result<usize, Refusal>
     ensures { outcome_of result ≡ decide (concat (lent_stages n table.now answer.now work.now)) (accepted (fragments table.now)) }
 {
-    let m = size_fault(n, table)?;
-    lengths_fault(n, m, table, work, answer)
+    let table = SizedTable::read(n, table)?;
+    lengths_fault(table, work, answer)
 }
 
 // Every rule of S and F.

@@ -5,8 +5,8 @@ use Rattle.records.proofs.OutcomeLaws.{passed_on}
 use Rattle.stages.proofs.StageLaws.{lent-sizes}
 use Rattle.stages.proofs.faults.lent_fault.Goals as goal
 
-pub returns-in_err-m : goal.returns-in_err-m
-returns-in_err-m c = passed_on _ _ c.from_residual.ensures ∙ sym (lent-sizes _ _ _ _ _ _ (sym c.in_err-m.ensures))
+pub returns-in_err-table : goal.returns-in_err-table
+returns-in_err-table c = passed_on _ _ c.from_residual.ensures ∙ sym (lent-sizes _ _ _ _ _ _ c.in_err-table.ensures)
 
-pub lengths_fault-requires : goal.lengths_fault-requires
-lengths_fault-requires c = record { kept = sym c.in_ok-m.ensures }
+pub returns : goal.returns
+returns c = rw (c.in_ok-table.ensures.columns, c.in_ok-table.ensures.same) at c.lengths_fault.ensures
