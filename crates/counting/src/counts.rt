@@ -16,6 +16,7 @@ fn copy_rows(m: usize, matrix: &[u8], counts: &mut [u8])
     requires { (m ≤ 128) × (length matrix.now ≡ 16384) × (length counts.old ≡ m * m) }
     ensures { counts.new ≡ rows_of m matrix.now }
 {
+    // Where the row starts: a sum, so that no product can overflow.
     let mut first = 0;
     for i in 0..m {
         let row = i * 128;

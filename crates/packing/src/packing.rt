@@ -119,7 +119,7 @@ fn fragment_fault(
     ungraded_fault(n, cells, tags, i, start, last)
 }
 
-// The fragments from 0, each by 5, 6, 17, 4, 9 and 13: the first fault, or the number of tags.
+// The fragments from 0, each by 5, 6, 17, 4, 9 and 13: the first fault, or the number of tags. By index, which is a refusal's place.
 fn fragments_fault(n: usize, cells: &[u8], tags: &[u32], grades: &[u8]) -> Result<usize, Refusal>
     requires { PackSized n cells.now tags.now grades.now }
     ensures { outcome_of result ≡ decide (fragments_rules n cells.now tags.now grades.now) (accepted (length tags.now)) }
@@ -134,13 +134,14 @@ fn fragments_fault(n: usize, cells: &[u8], tags: &[u32], grades: &[u8]) -> Resul
     Ok(m)
 }
 
-// Writes the record of each fragment into its own 32 bytes.
+// Writes the record of each fragment into its own 32 bytes. By index, since three lists and the table are walked at once.
 fn fill_table(n: usize, cells: &[u8], tags: &[u32], grades: &[u8], table: &mut [u8])
     requires pack_sized { PackSized n cells.now tags.now grades.now }
     requires fragments_kept { FragmentsKept n cells.now tags.now grades.now }
     requires table_len { length table.old ≡ 32 * length tags.now }
     ensures { table.new ≡ packed n cells.now tags.now grades.now }
 {
+    // Where the row starts: a sum, so that no product can overflow.
     let mut first = 0;
     for i in 0..tags.len() {
         let to = 32 * i;

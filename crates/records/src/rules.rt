@@ -50,7 +50,7 @@ fn record_fault(n: usize, table: &[u8], gapless: bool, i: usize) -> Result<(), R
     earlier_fault(table, part, i)
 }
 
-// The records from 0, each by its rules: the first fault, or the number of records.
+// The records from 0, each by its rules: the first fault, or the number of records. By index, which is a refusal's place; gapless is a flag, since the rules that it chooses are one list but for 8.
 fn first_fault(n: usize, table: &[u8], gapless: bool) -> Result<usize, Refusal>
     ensures { outcome_of result ≡ decide (concat (tab (fragments table.now) (rules_of gapless n table.now))) (accepted (fragments table.now)) }
 {
