@@ -18,6 +18,7 @@ use Rattle.conflicts.specs.Answer.{answer, snp_answer, fragment_answer}
 use Rattle.conflicts.specs.Services.{snp_removal_leaves, fragment_removal_leaves}
 use Rattle.conflicts.proofs.Minimality.{snp-free, fragments-free}
 use Rattle.conflicts.proofs.Outcomes.{snp-accepted, fragment-accepted}
+use Rattle.places.specs.declared.lines.Line.{Line}
 use Rattle.masks.specs.Algorithm.Masks.{Masks, mask_words, words_grid}
 use Rattle.masks.proofs.TableLaws.{table-masks, words-snp, words-fragment}
 use Rattle.phasing.specs.Algorithm.Answer.{AnswerFound}
@@ -48,7 +49,7 @@ module _ (n : ℕ) (table : List ℕ) where
   bytes-fragments e f found = bytes-phased _ _ e f (fragments-free (grid_of n table)) found
 
 -- over the words of a table that keeps its rules
-module _ {n m : ℕ} {table words : List ℕ} (sized : SizesKept n m table) (kept : RecordsKept n table) (are : words ≡ mask_words (grid_of n table)) where
+module _ {n m : ℕ} {table : List ℕ} {words : List Line} (sized : SizesKept n m table) (kept : RecordsKept n table) (are : words ≡ mask_words (grid_of n table)) where
   -- what phasing the words leaves, said of the table
   found_of : {keep frags before after : List ℕ} {ok : Bool} → ((g : Grid) → Masks g words → m ≡ g.m → n ≡ g.n → AnswerFound g keep frags ok before after) → AnswerFound (grid_of n table) keep frags ok before after
   unfolding grid_of

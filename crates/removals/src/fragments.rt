@@ -6,28 +6,26 @@ ghost use Rattle.conflicts.specs.Grid.{grid_of};
 ghost use Rattle.conflicts.specs.Removal.{fragment_keep_marks_of};
 ghost use Rattle.conflicts.specs.Answer.{answer_size, fragment_answer};
 ghost use Rattle.conflicts.specs.Services.{fragment_removal_leaves};
-ghost use Rattle.records.specs.Algorithm.Kept.{SizesKept, GaplessKept};
 ghost use Rattle.removals.specs.Meanings.{FragmentSays};
 
 use fragment_removal::fragment_keep_marks;
 use masks::{fill_masks, mask_room};
 use matrix::all_kept;
 use phasing::phase;
-use records::Refusal;
+use records::{GaplessTable, Refusal, SizedTable};
 use stages::removal_fault;
 
 // Settles the fragments and phases those kept: the number of removed fragments, the work all zero, and the answer.
-fn remove_fragments(n: usize, m: usize, table: &[u8], work: &mut [u16], answer: &mut [u8]) -> usize
-    requires sizes_kept { SizesKept n m table.now }
-    requires gapless_kept { GaplessKept n table.now }
+fn remove_fragments(table: GaplessTable<'_>, work: &mut [u16], answer: &mut [u8]) -> usize
     requires in_bounds { 32768 ≤ length work.old }
-    requires answer_len { length answer.old ≡ answer_size m n }
-    ensures count { result ≡ zeros (fragment_keep_marks_of (grid_of n table.now)) }
+    requires answer_len { length answer.old ≡ answer_size table.sized.m table.sized.n }
+    ensures count { result ≡ zeros (fragment_keep_marks_of (grid_of table.entry.sized.n table.entry.sized.bytes.now)) }
     ensures work { work.new ≡ replicate (length work.old) 0 }
-    ensures answer { answer.new ≡ fragment_answer (grid_of n table.now) }
+    ensures answer { answer.new ≡ fragment_answer (grid_of table.entry.sized.n table.entry.sized.bytes.now) }
 {
+    let SizedTable { n, m, bytes } = table.sized;
     let mut masks = mask_room();
-    fill_masks(table, &mut masks);
+    fill_masks(bytes, &mut masks);
     let mut frags = all_kept();
     let keep = &mut frags[0..m];
     let count = fragment_keep_marks(m, n, &masks, work, keep);
@@ -50,6 +48,8 @@ pub fn least_fragment_removal(
     ensures meaning { FragmentSays n table.now answer.new (outcome_of result) }
 {
     let m = removal_fault(n, table, work, answer)?;
-    let count = remove_fragments(n, m, table, work, answer);
+    let sized = SizedTable { n, m, bytes: table };
+    let table = GaplessTable { sized };
+    let count = remove_fragments(table, work, answer);
     Ok(count)
 }

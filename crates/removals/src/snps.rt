@@ -6,27 +6,24 @@ ghost use Rattle.conflicts.specs.Grid.{grid_of};
 ghost use Rattle.conflicts.specs.Removal.{snp_keep_marks_of};
 ghost use Rattle.conflicts.specs.Answer.{answer_size, snp_answer};
 ghost use Rattle.conflicts.specs.Services.{snp_removal_leaves};
-ghost use Rattle.records.specs.Algorithm.Kept.{SizesKept, GaplessKept};
 ghost use Rattle.removals.specs.Meanings.{SnpSays};
 
 use masks::{fill_masks, mask_room};
 use matrix::all_kept;
 use phasing::phase;
-use ranks::table;
-use records::Refusal;
+use records::{GaplessTable, Refusal, SizedTable};
 use snp_removal::snp_keep_marks;
 use stages::removal_fault;
 
 // Settles the columns and phases the fragments on those kept: the number of removed columns, and the answer.
-fn remove_snps(n: usize, m: usize, table: &[u8], answer: &mut [u8]) -> usize
-    requires sizes_kept { SizesKept n m table.now }
-    requires gapless_kept { GaplessKept n table.now }
-    requires answer_len { length answer.old ≡ answer_size m n }
-    ensures count { result ≡ zeros (snp_keep_marks_of (grid_of n table.now)) }
-    ensures answer { answer.new ≡ snp_answer (grid_of n table.now) }
+fn remove_snps(table: GaplessTable<'_>, answer: &mut [u8]) -> usize
+    requires { length answer.old ≡ answer_size table.sized.m table.sized.n }
+    ensures count { result ≡ zeros (snp_keep_marks_of (grid_of table.entry.sized.n table.entry.sized.bytes.now)) }
+    ensures answer { answer.new ≡ snp_answer (grid_of table.entry.sized.n table.entry.sized.bytes.now) }
 {
+    let SizedTable { n, m, bytes } = table.sized;
     let mut masks = mask_room();
-    fill_masks(table, &mut masks);
+    fill_masks(bytes, &mut masks);
     let mut cols = all_kept();
     let keep = &mut cols[0..n];
     let count = snp_keep_marks(m, n, &masks, keep);
@@ -48,7 +45,9 @@ pub fn least_snp_removal(
     ensures meaning { SnpSays n table.now answer.new (outcome_of result) }
 {
     let m = removal_fault(n, table, work, answer)?;
-    let count = remove_snps(n, m, table, answer);
-    table::clear(work);
+    let sized = SizedTable { n, m, bytes: table };
+    let table = GaplessTable { sized };
+    let count = remove_snps(table, answer);
+    work.fill(0);
     Ok(count)
 }

@@ -12,7 +12,7 @@ use Rattle.records.specs.Outcome.{Verdict, accepted, refused}
 use Rattle.records.specs.Rules.{Rule, decide, size_rules, table_rules, gapless_table_rules}
 use Rattle.below.proofs.SearchLaws.{<?-true}
 use Rattle.below.proofs.BelowLaws.{is_true, =?-eq, ne-isnt, isnt-isnt, isnt-<?}
-use Rattle.records.proofs.RuleLaws.{rule-broken, decide-none, stage-kept, stage-refused, stage-last, stages-kept, stages-refused, accepted-count, accepted-stage, unbroken}
+use Rattle.records.proofs.RuleLaws.{rule-broken, decide-accepted, decide-none, stage-kept, stage-refused, stage-last, stages-kept, stages-refused, accepted-count, accepted-stage, unbroken}
 use Rattle.records.proofs.AcceptedLaws.{whole-records, sized-count}
 use Rattle.records.proofs.TableLaws.{length_whole}
 use Rattle.conflicts.specs.Answer.{answer_size}
@@ -102,6 +102,10 @@ module _ (n : ℕ) (table answer work : List ℕ) where
     pub removal-kept : GaplessKept n table
     unfolding removal_rules lent_stages
     removal-kept = record { count = _; kept = accepted-stage _ _ m e (gapless_table_rules n table) (Memᴰ.tail (Memᴰ.tail (Memᴰ.tail (Memᴰ.head refl)))) }
+
+    -- … with the number of fragments that the call accepts
+    pub gapless-accepted : decide (gapless_table_rules n table) (accepted (fragments table)) ≡ accepted m
+    gapless-accepted = decide-accepted _ _ _ _ removal-kept.kept ∙ ap accepted (sized-count removal-sized)
 
 -- ---- the rules of C but 12
 

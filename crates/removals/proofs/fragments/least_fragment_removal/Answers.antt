@@ -2,7 +2,7 @@
 -- Assumes nothing.
 use mathlib.Core.Path.{sym}
 use Rattle.records.proofs.OutcomeLaws.{passed_on}
-use Rattle.stages.proofs.StageLaws.{removal-sized, removal-work, removal-answer, removal-kept}
+use Rattle.stages.proofs.StageLaws.{removal-sized, removal-work, removal-answer, gapless-accepted}
 use Rattle.removals.proofs.RemovalLaws.{removal-refuses, removal-accepts, clauses-outcome-work-answer-meaning}
 use Rattle.removals.proofs.TableRemovalLaws.{fragment-leaves}
 use Rattle.removals.proofs.fragments.least_fragment_removal.Goals as goal
@@ -11,10 +11,15 @@ pub returns-in_err-m : goal.returns-in_err-m
 returns-in_err-m c =
     rw (passed_on _ _ c.from_residual.ensures) (clauses-outcome-work-answer-meaning (fragment-leaves _ _ _ _ (removal-refuses _ _ _ _ _ _ _ _ (sym c.in_err-m.ensures))))
 
+pub invariant_of-sized : goal.invariant_of-sized
+invariant_of-sized c = record { sizes = removal-sized _ _ _ _ _ (sym c.in_ok-m.ensures) }
+
+pub invariant_of-table : goal.invariant_of-table
+invariant_of-table c = record { records = gapless-accepted _ _ _ _ _ (sym c.in_ok-m.ensures) }
+
 pub remove_fragments-count-requires : goal.remove_fragments-count-requires
 remove_fragments-count-requires c =
-    let e = sym c.in_ok-m.ensures in
-    record { sizes_kept = removal-sized _ _ _ _ _ e; gapless_kept = removal-kept _ _ _ _ _ e; in_bounds = removal-work _ _ _ _ _ e; answer_len = removal-answer _ _ _ _ _ e }
+    let e = sym c.in_ok-m.ensures in record { in_bounds = removal-work _ _ _ _ _ e; answer_len = removal-answer _ _ _ _ _ e }
 
 pub returns : goal.returns
 returns c =

@@ -5,6 +5,7 @@ use lib.ListN.{length, length-replicate}
 use mathlib.Core.Path.{ap, ◌∙◌}
 use native.Mathlib.Omega.{arith}
 use borrow.Author.Rules.{rules}
+use Rattle.records.specs.Algorithm.Kept.{GaplessKept}
 use Rattle.records.proofs.AcceptedLaws.{gapless-records, sized-n, sized-m}
 use Rattle.conflicts.specs.Choice.{zeros}
 use Rattle.conflicts.proofs.MarkLaws.{all-kept-part}
@@ -16,39 +17,40 @@ use Rattle.removals.proofs.fragments.remove_fragments.Goals as goal
 
 pub slice_bounds-frags-end : goal.slice_bounds-frags-end
 slice_bounds-frags-end c =
-    let e = ap length c.all_kept-frags.ensures ∙ length-replicate {A = ℕ} 128 1 in let h = sized-m c.requires.sizes_kept in omega arith
+    let e = ap length c.all_kept-frags.ensures ∙ length-replicate {A = ℕ} 128 1 in let h = sized-m c.args.table.sized.sizes in omega arith
 
 pub fragment_keep_marks-count-requires : goal.fragment_keep_marks-count-requires
 fragment_keep_marks-count-requires c =
-    let p = c.requires in
-    let kept = gapless-records p.gapless_kept in
-    let are = c.fill_masks.ensures c.args.n (kept-letters kept) in
-    let h = p.in_bounds in
-    let long = ap length (all-kept-part c.args.m _ (sized-m p.sizes_kept) c.all_kept-frags.ensures) ∙ all-length c.args.m in
-    (sized-m p.sizes_kept, sized-n p.sizes_kept, search rules, words-masks p.sizes_kept kept are, words-gapless p.sizes_kept kept are p.gapless_kept, words-rising p.sizes_kept kept are, omega arith, long)
+    let t = c.args.table.sized in
+    let gapless : GaplessKept t.n t.bytes.now = record { count = _; kept = c.args.table.records } in
+    let kept = gapless-records gapless in
+    let are = c.fill_masks.ensures t.n (kept-letters kept) in
+    let h = c.requires.in_bounds in
+    let long = ap length (all-kept-part t.m _ (sized-m t.sizes) c.all_kept-frags.ensures) ∙ all-length t.m in
+    (sized-m t.sizes, sized-n t.sizes, words-masks t.sizes kept are, words-gapless t.sizes kept are gapless, words-rising t.sizes kept are, omega arith, long)
 
-pub slice_bounds-phase-end-2 : goal.slice_bounds-phase-end-2
-slice_bounds-phase-end-2 c =
-    let e = ap length c.all_kept-cols.ensures ∙ length-replicate {A = ℕ} 128 1 in let h = sized-n c.requires.sizes_kept in omega arith
+pub slice_bounds-phase-end : goal.slice_bounds-phase-end
+slice_bounds-phase-end c =
+    let e = ap length c.all_kept-cols.ensures ∙ length-replicate {A = ℕ} 128 1 in let h = sized-n c.args.table.sized.sizes in omega arith
 
 pub phase-requires : goal.phase-requires
 phase-requires c =
-    let p = c.requires in (
+    let t = c.args.table.sized in (
       record {
-        few = sized-m p.sizes_kept;
-        narrow = sized-n p.sizes_kept;
-        long = search rules;
-        columns = ap length (all-kept-part c.args.n _ (sized-n p.sizes_kept) c.all_kept-cols.ensures) ∙ all-length c.args.n;
-        fragments = c.fragment_keep_marks-count.auto.keep ∙ ap length (all-kept-part c.args.m _ (sized-m p.sizes_kept) c.all_kept-frags.ensures) ∙ all-length c.args.m;
+        few = sized-m t.sizes;
+        narrow = sized-n t.sizes;
+        columns = ap length (all-kept-part t.n _ (sized-n t.sizes) c.all_kept-cols.ensures) ∙ all-length t.n;
+        fragments = c.fragment_keep_marks-count.auto.keep ∙ ap length (all-kept-part t.m _ (sized-m t.sizes) c.all_kept-frags.ensures) ∙ all-length t.m;
       },
-      p.answer_len,
+      c.requires.answer_len,
     )
 
 pub returns : goal.returns
 returns c =
-    let p = c.requires in
-    let kept = gapless-records p.gapless_kept in
-    let are = c.fill_masks.ensures c.args.n (kept-letters kept) in
+    let t = c.args.table.sized in
+    let gapless : GaplessKept t.n t.bytes.now = record { count = _; kept = c.args.table.records } in
+    let kept = gapless-records gapless in
+    let are = c.fill_masks.ensures t.n (kept-letters kept) in
     let e = c.fragment_keep_marks-count.ensures in
-    let cols = all-kept-part c.args.n _ (sized-n p.sizes_kept) c.all_kept-cols.ensures in
-    record { count = e.1 ∙ ap zeros (words-fragment p.sizes_kept kept are); work = e.2; answer = table-fragment-answer p.sizes_kept kept are cols e.0 c.phase.ensures }
+    let cols = all-kept-part t.n _ (sized-n t.sizes) c.all_kept-cols.ensures in
+    record { count = e.1 ∙ ap zeros (words-fragment t.sizes kept are); work = e.2; answer = table-fragment-answer t.sizes kept are cols e.0 c.phase.ensures }

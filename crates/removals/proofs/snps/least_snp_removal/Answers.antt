@@ -2,7 +2,7 @@
 -- Assumes nothing.
 use mathlib.Core.Path.{sym}
 use Rattle.records.proofs.OutcomeLaws.{passed_on}
-use Rattle.stages.proofs.StageLaws.{removal-sized, removal-answer, removal-kept}
+use Rattle.stages.proofs.StageLaws.{removal-sized, removal-answer, gapless-accepted}
 use Rattle.removals.proofs.RemovalLaws.{removal-refuses, removal-accepts, clauses-outcome-work-answer-meaning}
 use Rattle.removals.proofs.TableRemovalLaws.{snp-leaves}
 use Rattle.removals.proofs.snps.least_snp_removal.Goals as goal
@@ -11,12 +11,16 @@ pub returns-in_err-m : goal.returns-in_err-m
 returns-in_err-m c =
     rw (passed_on _ _ c.from_residual.ensures) (clauses-outcome-work-answer-meaning (snp-leaves _ _ _ _ (removal-refuses _ _ _ _ _ _ _ _ (sym c.in_err-m.ensures))))
 
+pub invariant_of-sized : goal.invariant_of-sized
+invariant_of-sized c = record { sizes = removal-sized _ _ _ _ _ (sym c.in_ok-m.ensures) }
+
+pub invariant_of-table : goal.invariant_of-table
+invariant_of-table c = record { records = gapless-accepted _ _ _ _ _ (sym c.in_ok-m.ensures) }
+
 pub remove_snps-count-requires : goal.remove_snps-count-requires
-remove_snps-count-requires c =
-    let e = sym c.in_ok-m.ensures in
-    record { sizes_kept = removal-sized _ _ _ _ _ e; gapless_kept = removal-kept _ _ _ _ _ e; answer_len = removal-answer _ _ _ _ _ e }
+remove_snps-count-requires c = removal-answer _ _ _ _ _ (sym c.in_ok-m.ensures)
 
 pub returns : goal.returns
 returns c =
     let removed = c.remove_snps-count.ensures in
-    clauses-outcome-work-answer-meaning (snp-leaves _ _ _ _ (removal-accepts _ _ _ _ _ _ _ (sym c.in_ok-m.ensures) removed.count c.clear.ensures.zeros removed.answer))
+    clauses-outcome-work-answer-meaning (snp-leaves _ _ _ _ (removal-accepts _ _ _ _ _ _ _ (sym c.in_ok-m.ensures) removed.count c.fill.ensures removed.answer))

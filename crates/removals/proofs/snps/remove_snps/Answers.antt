@@ -5,6 +5,7 @@ use lib.ListN.{length, length-replicate}
 use mathlib.Core.Path.{ap, ◌∙◌}
 use native.Mathlib.Omega.{arith}
 use borrow.Author.Rules.{rules}
+use Rattle.records.specs.Algorithm.Kept.{GaplessKept}
 use Rattle.records.proofs.AcceptedLaws.{gapless-records, sized-n, sized-m}
 use Rattle.conflicts.specs.Choice.{zeros}
 use Rattle.conflicts.proofs.MarkLaws.{all-kept-part}
@@ -16,36 +17,37 @@ use Rattle.removals.proofs.snps.remove_snps.Goals as goal
 
 pub slice_bounds-cols-end : goal.slice_bounds-cols-end
 slice_bounds-cols-end c =
-    let e = ap length c.all_kept-cols.ensures ∙ length-replicate {A = ℕ} 128 1 in let h = sized-n c.requires.sizes_kept in omega arith
+    let e = ap length c.all_kept-cols.ensures ∙ length-replicate {A = ℕ} 128 1 in let h = sized-n c.args.table.sized.sizes in omega arith
 
-pub slice_bounds-phase-end-2 : goal.slice_bounds-phase-end-2
-slice_bounds-phase-end-2 c =
-    let e = ap length c.all_kept-frags.ensures ∙ length-replicate {A = ℕ} 128 1 in let h = sized-m c.requires.sizes_kept in omega arith
+pub slice_bounds-phase-end : goal.slice_bounds-phase-end
+slice_bounds-phase-end c =
+    let e = ap length c.all_kept-frags.ensures ∙ length-replicate {A = ℕ} 128 1 in let h = sized-m c.args.table.sized.sizes in omega arith
 
 pub snp_keep_marks-count-requires : goal.snp_keep_marks-count-requires
 snp_keep_marks-count-requires c =
-    let p = c.requires in
-    let kept = gapless-records p.gapless_kept in
-    let are = c.fill_masks.ensures c.args.n (kept-letters kept) in
-    (sized-m p.sizes_kept, sized-n p.sizes_kept, search rules, words-masks p.sizes_kept kept are, words-gapless p.sizes_kept kept are p.gapless_kept, ap length (all-kept-part c.args.n _ (sized-n p.sizes_kept) c.all_kept-cols.ensures) ∙ all-length c.args.n)
+    let t = c.args.table.sized in
+    let gapless : GaplessKept t.n t.bytes.now = record { count = _; kept = c.args.table.records } in
+    let kept = gapless-records gapless in
+    let are = c.fill_masks.ensures t.n (kept-letters kept) in
+    (sized-m t.sizes, sized-n t.sizes, words-masks t.sizes kept are, words-gapless t.sizes kept are gapless, ap length (all-kept-part t.n _ (sized-n t.sizes) c.all_kept-cols.ensures) ∙ all-length t.n)
 
 pub phase-requires : goal.phase-requires
 phase-requires c =
-    let p = c.requires in (
+    let t = c.args.table.sized in (
       record {
-        few = sized-m p.sizes_kept;
-        narrow = sized-n p.sizes_kept;
-        long = search rules;
-        columns = c.snp_keep_marks-count.auto.keep ∙ ap length (all-kept-part c.args.n _ (sized-n p.sizes_kept) c.all_kept-cols.ensures) ∙ all-length c.args.n;
-        fragments = ap length (all-kept-part c.args.m _ (sized-m p.sizes_kept) c.all_kept-frags.ensures) ∙ all-length c.args.m;
+        few = sized-m t.sizes;
+        narrow = sized-n t.sizes;
+        columns = c.snp_keep_marks-count.auto.keep ∙ ap length (all-kept-part t.n _ (sized-n t.sizes) c.all_kept-cols.ensures) ∙ all-length t.n;
+        fragments = ap length (all-kept-part t.m _ (sized-m t.sizes) c.all_kept-frags.ensures) ∙ all-length t.m;
       },
-      p.answer_len,
+      c.requires,
     )
 
 pub returns : goal.returns
 returns c =
-    let p = c.requires in
-    let kept = gapless-records p.gapless_kept in
-    let are = c.fill_masks.ensures c.args.n (kept-letters kept) in
+    let t = c.args.table.sized in
+    let gapless : GaplessKept t.n t.bytes.now = record { count = _; kept = c.args.table.records } in
+    let kept = gapless-records gapless in
+    let are = c.fill_masks.ensures t.n (kept-letters kept) in
     let e = c.snp_keep_marks-count.ensures in
-    record { count = e.1 ∙ ap zeros (words-snp p.sizes_kept kept are); answer = table-answer p.sizes_kept kept are e.0 (all-kept-part c.args.m _ (sized-m p.sizes_kept) c.all_kept-frags.ensures) c.phase.ensures }
+    record { count = e.1 ∙ ap zeros (words-snp t.sizes kept are); answer = table-answer t.sizes kept are e.0 (all-kept-part t.m _ (sized-m t.sizes) c.all_kept-frags.ensures) c.phase.ensures }
