@@ -1,3 +1,3 @@
 pub mod Listing
 pub mod Lines
-pub mod Algorithm
+pub mod Letters

@@ -1,34 +1,20 @@
-// Standard input. What a read puts into a buffer has no contract, so this is tested and not proved: only that it ends, and stays inside the buffer, is proved.
-ghost use Rattle.std.specs.Prelude.{◌≤◌, length};
+// Standard input. That the bytes read are those of the input is tested and not proved, since nothing states which those are.
+ghost use Rattle.std.specs.Prelude.{◌≤◌, length, IfOk};
 
+use std::io;
 use std::io::Read;
 
-// How many bytes were read, and whether they are all: the input ended, or the buffer is full.
-#[derive(Clone, Copy)]
-pub(crate) struct Input {
-    pub whole: bool,
-    pub count: usize,
-}
-
-// Reads until the buffer is full or the input ends. A read that brings fewer bytes than asked is followed by another; one that fails ends it, and what was read is not whole.
-pub(crate) fn read_input<R: Read>(reader: &mut R, buffer: &mut [u8]) -> Input
-    ensures { result.count ≤ length buffer.new }
+// Reads until the buffer is full or the input ends, and returns how many bytes it read. A read that brings fewer than asked is followed by another.
+pub(crate) fn read_input<R: Read>(reader: &mut R, buffer: &mut [u8]) -> io::Result<usize>
+    ensures { IfOk result (λ count. count ≤ length buffer.new) }
 {
-    let mut done = 0;
-    while done < buffer.len() {
-        let Ok(more) = reader.read(&mut buffer[done..]) else {
-            return Input {
-                whole: false,
-                count: done,
-            };
-        };
+    let mut count = 0;
+    while count < buffer.len() {
+        let more = reader.read(&mut buffer[count..])?;
         if more == 0 {
             break;
         }
-        done += more;
+        count += more;
     }
-    Input {
-        whole: true,
-        count: done,
-    }
+    Ok(count)
 }
