@@ -9,7 +9,7 @@ use Rattle.below.specs.Below.{tab}
 use Rattle.below.proofs.RowLaws.{tab-ext}
 use Rattle.records.specs.Outcome.{Verdict, accepted, refused}
 use Rattle.conflicts.specs.Answer.{answer_size, keep_mark_in, haplotype_in, side_in, block_in}
-use Rattle.listing.proofs.AppendLaws.{part-mapped}
+use Rattle.listing.proofs.FieldLaws.{part-mapped}
 use Rattle.below.specs.Text.{ascii}
 use Rattle.listing.specs.Listing.{digits, letters, sign_of, decimal, block_word, led, joined, field, line, column_fields, fragment_fields, error_free_line, fields}
 

@@ -16,7 +16,7 @@ use Rattle.records.proofs.RuleLaws.{unbroken, accepted-count}
 use Rattle.conflicts.specs.Answer.{answer_size}
 use Rattle.conflicts.specs.Services.{snp_removal_leaves, fragment_removal_leaves, corrections_leaves}
 use Rattle.listing.specs.Listing.{service_line, blank, snp_removal_line, fragment_removal_line, correction_line, least_line, listed, listing}
-use Rattle.listing.specs.Letters.{letter_of}
+use Rattle.listing.specs.Algorithm.Letters.{letter_of}
 use Rattle.listing.specs.declared.service.Service.{Service}
 use Rattle.listing.specs.declared.service.Service.TheVariants.{Snps, Fragments, Calls}
 

@@ -1,3 +1,3 @@
 pub mod Listing
 pub mod Lines
-pub mod Letters
+pub mod Algorithm

@@ -3,7 +3,7 @@ ghost use Rattle.std.specs.Prelude.{◌≡◌, ◌++◌, ◌+◌, ◌*◌, ◌�
 ghost use Rattle.records.specs.Outcome.{outcome_of};
 ghost use Rattle.conflicts.specs.Answer.{answer_size};
 ghost use Rattle.below.specs.Text.{ascii};
-ghost use Rattle.listing.specs.Letters.{letter_of};
+ghost use Rattle.listing.specs.Algorithm.Letters.{letter_of};
 ghost use Rattle.listing.specs.Listing.{decimal, line, refusal, fields, sizes_line, error_free_line, service_line};
 
 use crate::answers::{put_block_field, put_field};

@@ -1,6 +1,6 @@
 // The services that print an answer.
 ghost use Rattle.std.specs.Prelude.{◌≡◌};
-ghost use Rattle.listing.specs.Letters.{letter_of};
+ghost use Rattle.listing.specs.Algorithm.Letters.{letter_of};
 
 // S, F or C: the least SNPs or fragments to remove, or calls to correct.
 #[derive(Clone, Copy)]

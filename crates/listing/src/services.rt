@@ -2,7 +2,7 @@
 ghost use Rattle.std.specs.Prelude.{◌≡◌, ◌++◌, ◌+◌, ◌≤◌, length};
 ghost use Rattle.records.specs.Outcome.{outcome_of};
 ghost use Rattle.conflicts.specs.Answer.{answer_size};
-ghost use Rattle.listing.specs.Letters.{letter_of};
+ghost use Rattle.listing.specs.Algorithm.Letters.{letter_of};
 ghost use Rattle.listing.specs.Listing.{blank, check_line, service_line, least_line};
 
 use crate::lines::{put_error_free, put_service};
@@ -12,11 +12,13 @@ use crate::text::{ROOM, Text};
 use haplotypes::{check, least_corrections, least_fragment_removal, least_snp_removal};
 use records::Outcome;
 
-// Room for the answer of a full table, the work buffer, and room for the corrected records of a full table.
+// Room for the answer of a full table.
 const ANSWER: usize = 640;
 
+// The work buffer.
 const WORK: usize = 32768;
 
+// Room for the corrected records of a full table.
 const TABLE: usize = 4096;
 
 pub(crate) fn put_check(sizes: Sizes, table: &[u8], out: &mut Text)

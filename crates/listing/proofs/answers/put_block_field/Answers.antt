@@ -1,4 +1,4 @@
-use Rattle.listing.proofs.AppendLaws.{words-none, words-some}
+use Rattle.listing.proofs.FieldLaws.{words-none, words-some}
 use Rattle.listing.proofs.NumberLaws.{block-some}
 use Rattle.below.specs.Text.{ascii}
 use mathlib.Core.List.{append_assoc}

@@ -1,4 +1,4 @@
-use Rattle.listing.proofs.AppendLaws.{words-more}
+use Rattle.listing.proofs.FieldLaws.{words-more}
 use Rattle.listing.specs.Listing.{led}
 use lib.ListN.{length, length-append}
 use native.Mathlib.Omega.{arith}

@@ -1,5 +1,5 @@
 use Rattle.std.proofs.lemmas.Bool.Decides.{nat_tests}
-use Rattle.listing.proofs.AppendLaws.{signs-none, signs-some}
+use Rattle.listing.proofs.FieldLaws.{signs-none, signs-some}
 use Rattle.below.specs.Text.{ascii}
 use lib.ListN.{length}
 use native.Mathlib.Omega.{arith}

@@ -1,4 +1,4 @@
-use Rattle.listing.proofs.AppendLaws.{bytes-more}
+use Rattle.listing.proofs.FieldLaws.{bytes-more}
 use Rattle.listing.specs.Listing.{sign_of}
 use mathlib.Core.List.{append_assoc}
 use Rattle.listing.proofs.answers.put_signs.Goals as goal
