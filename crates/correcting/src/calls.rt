@@ -24,7 +24,7 @@ use masks::{fill_masks, mask_room};
 use matrix::{all_kept, blank_cells, fill_matrix, fill_weights};
 use phasing::fill_answer;
 use ranks::table;
-use records::Outcome;
+use records::{Fault, Refusal};
 use rewriting::{correct_cells, fill_records};
 use slots::{fill_spans, first_deep};
 use stages::correction_fault;
@@ -138,7 +138,7 @@ fn correct_shallow(
     work: &mut [u16],
     answer: &mut [u8],
     corrected: &mut [u8],
-) -> Outcome
+) -> Result<usize, Refusal>
     requires correction_kept { CorrectionKept n m table.now answer.old corrected.old work.old }
     requires cells_value { cells.now ≡ table_cells n table.now }
     ensures outcome { outcome_of result ≡ (corrections_leaves n table.now answer.old corrected.old work.old).outcome }
@@ -151,11 +151,11 @@ fn correct_shallow(
     fill_spans(m, n, cells, &mut starts, &mut ends);
     let deep = first_deep(m, n, &starts, &ends);
     if deep < n {
-        return Outcome::Refused(12, deep);
+        return Err(Fault::TooDeep.at(deep));
     }
     let total = correct_table(n, m, table, cells, &starts, &ends, answer, corrected);
     table::clear(work);
-    Outcome::Accepted(total)
+    Ok(total)
 }
 
 // C once every rule but 12 is kept.
@@ -166,7 +166,7 @@ fn correct_kept(
     work: &mut [u16],
     answer: &mut [u8],
     corrected: &mut [u8],
-) -> Outcome
+) -> Result<usize, Refusal>
     requires { CorrectionKept n m table.now answer.old corrected.old work.old }
     ensures outcome { outcome_of result ≡ (corrections_leaves n table.now answer.old corrected.old work.old).outcome }
     ensures work { work.new ≡ (corrections_leaves n table.now answer.old corrected.old work.old).work }
@@ -185,16 +185,13 @@ pub fn least_corrections(
     work: &mut [u16],
     answer: &mut [u8],
     corrected: &mut [u8],
-) -> Outcome
+) -> Result<usize, Refusal>
     ensures outcome { outcome_of result ≡ (corrections_leaves n table.now answer.old corrected.old work.old).outcome }
     ensures work { work.new ≡ (corrections_leaves n table.now answer.old corrected.old work.old).work }
     ensures answer { answer.new ≡ (corrections_leaves n table.now answer.old corrected.old work.old).answer }
     ensures corrected { corrected.new ≡ (corrections_leaves n table.now answer.old corrected.old work.old).table }
     ensures meaning { CorrectionSays n table.now answer.new corrected.new (outcome_of result) }
 {
-    let fault = correction_fault(n, table, work, answer, corrected);
-    match fault {
-        Outcome::Refused(number, place) => Outcome::Refused(number, place),
-        Outcome::Accepted(m) => correct_kept(n, m, table, work, answer, corrected),
-    }
+    let m = correction_fault(n, table, work, answer, corrected)?;
+    correct_kept(n, m, table, work, answer, corrected)
 }

@@ -10,7 +10,7 @@ ghost use Rattle.counting.specs.Meanings.{ConflictCountsSay};
 
 use masks::{fill_masks, fill_pairs, kept, mask_room};
 use matrix::{all_kept, blank_cells, copy};
-use records::{Outcome, records_fault, size_fault};
+use records::{Fault, Refusal, records_fault, size_fault};
 
 // Writes the first m numbers of the first m rows of a matrix, 128 to a row.
 fn copy_rows(m: usize, matrix: &[u8], counts: &mut [u8])
@@ -42,33 +42,25 @@ fn count_table(n: usize, m: usize, table: &[u8], counts: &mut [u8])
 }
 
 // conflict_counts once the sizes are kept: the counts' length, then the records.
-fn counts_sized(n: usize, m: usize, table: &[u8], counts: &mut [u8]) -> Outcome
+fn counts_sized(n: usize, m: usize, table: &[u8], counts: &mut [u8]) -> Result<usize, Refusal>
     requires { SizesKept n m table.now }
     ensures outcome { outcome_of result ≡ (conflict_counts_leaves n table.now counts.old).outcome }
     ensures counts { counts.new ≡ (conflict_counts_leaves n table.now counts.old).counts }
 {
     if counts.len() != m * m {
-        return Outcome::Refused(11, 0);
+        return Err(Fault::WrongBuffer.at(0));
     }
-    let rest = records_fault(n, table);
-    match rest {
-        Outcome::Refused(number, place) => Outcome::Refused(number, place),
-        Outcome::Accepted(_) => {
-            count_table(n, m, table, counts);
-            Outcome::Accepted(m)
-        }
-    }
+    records_fault(n, table)?;
+    count_table(n, m, table, counts);
+    Ok(m)
 }
 
 // Accepted with m, and m × m bytes: row by row, on how many columns fragments i and j conflict. A refusal writes nothing. Takes 24 KB of stack.
-pub fn conflict_counts(n: usize, table: &[u8], counts: &mut [u8]) -> Outcome
+pub fn conflict_counts(n: usize, table: &[u8], counts: &mut [u8]) -> Result<usize, Refusal>
     ensures outcome { outcome_of result ≡ (conflict_counts_leaves n table.now counts.old).outcome }
     ensures counts { counts.new ≡ (conflict_counts_leaves n table.now counts.old).counts }
     ensures meaning { ConflictCountsSay n table.now counts.new (outcome_of result) }
 {
-    let sizes = size_fault(n, table);
-    match sizes {
-        Outcome::Refused(number, place) => Outcome::Refused(number, place),
-        Outcome::Accepted(m) => counts_sized(n, m, table, counts),
-    }
+    let m = size_fault(n, table)?;
+    counts_sized(n, m, table, counts)
 }

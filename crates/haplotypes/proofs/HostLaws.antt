@@ -1,6 +1,6 @@
 -- Every outcome of a service can be read from its number for the host.
 -- Assumes nothing.
-use Rattle.std.specs.Prelude.{if◌then◌else◌}
+use Rattle.std.specs.Prelude.{if◌then◌else◌, Result, Err}
 use mathlib.Core.Path.{◌≡◌, refl, sym, ap, ap₂, subst, ◌∙◌}
 use mathlib.Core.Bool.{Bool, true, false}
 use mathlib.Core.Logic.{inl, inr}
@@ -13,9 +13,8 @@ use lib.Arith.{digits_div, digits_mod}
 use lib.ListN.{length}
 use Rattle.below.specs.Below.{◌<?◌, concat, tab}
 use Rattle.fields.specs.Table.{fragments, part_start, position}
-use Rattle.records.specs.declared.Outcome.{Outcome}
-use Rattle.records.specs.declared.Outcome.TheVariants.{Refused}
-use Rattle.records.specs.Outcome.{Verdict, accepted, refused, outcome_of}
+use Rattle.records.specs.declared.refusal.Refusal.{Refusal}
+use Rattle.records.specs.Outcome.{Verdict, accepted, refused, number_of, outcome_of}
 use Rattle.records.specs.Rules.{Rule, rule, decide, earlier_rules, span_rules, record_rules, gapless_rules, table_rules, gapless_table_rules, size_rules}
 use Rattle.below.proofs.BelowLaws.{if-ind, if-true, if-false, lt-<?, le-isnt, sum-most, count-bound}
 use Rattle.fields.proofs.GradeLaws.{weight-range}
@@ -50,10 +49,10 @@ host-read base {v} h e = ap (host_read base) e ∙ go v h
         ∙ ap₂ refused (ap (λ (r : ℕ). (r + place) / base) (turn number) ∙ digits_div number h.1) (ap (λ (r : ℕ). (r + place) % base) (turn number) ∙ digits_mod number h.1)
 
 -- a refusal's number has room in 64 bits
-pub refused-room : {base number place : ℕ} {outcome : Outcome} → base ≤ 4294967296 → HostFits base (outcome_of outcome) → outcome ≡ Refused number place → number < 256
-    → base * number + place < 18446744073709551616
-refused-room {base} {number} {place} hb fits e hn =
-    let h = (subst (λ (o : Outcome). HostFits base (outcome_of o)) e fits).1 in
+pub refused-room : {base number : ℕ} {outcome : Result ℕ Refusal} {r : Refusal} → base ≤ 4294967296 → HostFits base (outcome_of outcome) → outcome ≡ Err r → number ≡ number_of r.fault → number < 256
+    → base * number + r.place < 18446744073709551616
+refused-room {base} {number} {r = r} hb fits e same hn =
+    let h = (subst (λ (o : Result ℕ Refusal). HostFits base (outcome_of o)) e fits).1 in
     let n : number ≤ 256 = omega arith in
     let g : base * number ≤ 4294967296 * 256 = mul-le-mul hb n in
     omega arith

@@ -8,19 +8,19 @@ use correcting::least_corrections;
 use counting::conflict_counts;
 use fields::position_of;
 use packing::{pack, unpack};
-use records::Outcome;
+use records::Refusal;
 use removals::{least_fragment_removal, least_snp_removal};
 use verdicts::check;
 
 // A count as it is, a refusal as base × number + place.
-fn host_number(base: u64, outcome: Outcome) -> u64
+fn host_number(base: u64, outcome: Result<usize, Refusal>) -> u64
     requires base_bound { base ≤ 4294967296 }
     requires host_fits { HostFits base (outcome_of outcome) }
     ensures { result ≡ host_number_of base (outcome_of outcome) }
 {
     match outcome {
-        Outcome::Accepted(count) => count as u64,
-        Outcome::Refused(number, place) => base * (number as u64) + place as u64,
+        Ok(count) => count as u64,
+        Err(refusal) => base * u64::from(refusal.fault.number()) + refusal.place as u64,
     }
 }
 

@@ -2,7 +2,7 @@
 -- Assumes nothing.
 use Rattle.std.specs.Prelude.{if◌then◌else◌}
 use mathlib.Core.Path.{◌≡◌, refl, sym, ap, ◌∙◌}
-use mathlib.Core.Bool.{Bool, true, false}
+use mathlib.Core.Bool.{Bool}
 use mathlib.Core.List.Memᴰ
 use mathlib.Core.List.{List, ◌++◌, append_assoc, append-nil}
 use Prim.Native.Nat.{ℕ, zero, suc, ◌+◌, ◌*◌, ◌-◌, ◌≤◌, ◌<◌}
@@ -23,7 +23,7 @@ use Rattle.records.proofs.PackLaws.{length-record_of}
 use Rattle.records.proofs.RuleLaws.{decide-accepted, rule-broken, rule-kept, decide-none, stage-kept, stage-refused, accepted-stage}
 use Rattle.conflicts.specs.Services.{written, length_rule, pack_size_rules, pack_rules, pack_leaves}
 use Rattle.conflicts.proofs.Outcomes.{pack-refused}
-use Rattle.packing.specs.Algorithm.Sizes.{PackSized, FragmentsKept, fragments_rules, refuses}
+use Rattle.packing.specs.Algorithm.Sizes.{PackSized, FragmentsKept, fragments_rules}
 
 -- ---- the table, record by record
 
@@ -122,23 +122,6 @@ module _ (n : ℕ) (cells tags grades table : List ℕ) where
       → (accepted k ≡ (pack_leaves n cells tags grades table).outcome) × (packed n cells tags grades ≡ (pack_leaves n cells tags grades table).table)
   unfolding pack_leaves
   pack-accepts k e = (sym e, sym (ap (λ (v : Verdict). written v (packed n cells tags grades) table) e))
-
-  -- the same by whether the fragments' verdict refuses
-  pub refused-untouched : (v : Verdict) → (pack_leaves n cells tags grades table).outcome ≡ v → refuses v ≡ true → table ≡ (pack_leaves n cells tags grades table).table
-  unfolding refuses
-  refused-untouched (accepted k) e t = absurd (let z : ◌≡◌ {A = ℕ} 0 1 = cc in omega arith)
-  refused-untouched (refused number place) e t = (pack-refuses number place e).1
-
-  pub kept-written : (v : Verdict) → (pack_leaves n cells tags grades table).outcome ≡ v → refuses v ≡ false → packed n cells tags grades ≡ (pack_leaves n cells tags grades table).table
-  unfolding refuses
-  kept-written (accepted k) e t = (pack-accepts k e).1
-  kept-written (refused number place) e t = absurd (let z : ◌≡◌ {A = ℕ} 0 1 = cc in omega arith)
-
--- fragments whose verdict does not refuse keep their rules
-pub kept-fragments : (n : ℕ) (cells tags grades : List ℕ) (v : Verdict) → v ≡ decide (fragments_rules n cells tags grades) (accepted (length tags)) → refuses v ≡ false → FragmentsKept n cells tags grades
-unfolding refuses
-kept-fragments n cells tags grades (accepted k) e t = record { kept = decide-accepted _ _ k _ (sym e) }
-kept-fragments n cells tags grades (refused number place) e t = absurd (let z : ◌≡◌ {A = ℕ} 0 1 = cc in omega arith)
 
 -- what pack ensures, from the facts in the order of its clauses
 pub clauses-outcome-table : {A B : Type 0} → A × B → record { outcome : A; table : B }

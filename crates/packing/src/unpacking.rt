@@ -6,7 +6,7 @@ ghost use Rattle.conflicts.specs.Services.{unpack_leaves};
 ghost use Rattle.records.specs.Algorithm.Kept.{SizesKept};
 
 use fields::{fill_row, grade, record_at, tag};
-use records::{Outcome, records_fault, size_fault};
+use records::{Fault, Refusal, records_fault, size_fault};
 
 // Writes the m × n cells, a row of n for each fragment.
 fn fill_cells(n: usize, table: &[u8], cells: &mut [u8])
@@ -15,11 +15,9 @@ fn fill_cells(n: usize, table: &[u8], cells: &mut [u8])
 {
     let m = table.len() / 32;
     let mut first = 0;
-    let mut i = 0;
-    while i < m {
+    for i in 0..m {
         fill_row(n, record_at(table, i), &mut cells[first..first + n]);
         first += n;
-        i += 1;
     }
 }
 
@@ -28,10 +26,8 @@ fn fill_tags(table: &[u8], tags: &mut [u32])
     requires { length tags.old ≡ fragments table.now }
     ensures { tags.new ≡ unpacked_tags table.now }
 {
-    let mut i = 0;
-    while i < tags.len() {
+    for i in 0..tags.len() {
         tags[i] = tag(record_at(table, i));
-        i += 1;
     }
 }
 
@@ -40,10 +36,8 @@ fn fill_grades(table: &[u8], grades: &mut [u8])
     requires { length grades.old ≡ fragments table.now }
     ensures { grades.new ≡ unpacked_grades table.now }
 {
-    let mut i = 0;
-    while i < grades.len() {
+    for i in 0..grades.len() {
         grades[i] = grade(record_at(table, i));
-        i += 1;
     }
 }
 
@@ -55,32 +49,21 @@ fn unpack_sized(
     cells: &mut [u8],
     tags: &mut [u32],
     grades: &mut [u8],
-) -> Outcome
+) -> Result<usize, Refusal>
     requires { SizesKept n m table.now }
     ensures outcome { outcome_of result ≡ (unpack_leaves n table.now cells.old tags.old grades.old).outcome }
     ensures cells { cells.new ≡ (unpack_leaves n table.now cells.old tags.old grades.old).cells }
     ensures tags { tags.new ≡ (unpack_leaves n table.now cells.old tags.old grades.old).tags }
     ensures grades { grades.new ≡ (unpack_leaves n table.now cells.old tags.old grades.old).grades }
 {
-    if cells.len() != m * n {
-        return Outcome::Refused(11, 0);
+    if cells.len() != m * n || tags.len() != m || grades.len() != m {
+        return Err(Fault::WrongBuffer.at(0));
     }
-    if tags.len() != m {
-        return Outcome::Refused(11, 0);
-    }
-    if grades.len() != m {
-        return Outcome::Refused(11, 0);
-    }
-    let rest = records_fault(n, table);
-    match rest {
-        Outcome::Refused(number, place) => Outcome::Refused(number, place),
-        Outcome::Accepted(_) => {
-            fill_cells(n, table, cells);
-            fill_tags(table, tags);
-            fill_grades(table, grades);
-            Outcome::Accepted(m)
-        }
-    }
+    records_fault(n, table)?;
+    fill_cells(n, table, cells);
+    fill_tags(table, tags);
+    fill_grades(table, grades);
+    Ok(m)
 }
 
 // Writes the m × n cells, one byte each by fragment and then column, the m tags and the m grades; a refusal writes nothing.
@@ -90,15 +73,12 @@ pub fn unpack(
     cells: &mut [u8],
     tags: &mut [u32],
     grades: &mut [u8],
-) -> Outcome
+) -> Result<usize, Refusal>
     ensures outcome { outcome_of result ≡ (unpack_leaves n table.now cells.old tags.old grades.old).outcome }
     ensures cells { cells.new ≡ (unpack_leaves n table.now cells.old tags.old grades.old).cells }
     ensures tags { tags.new ≡ (unpack_leaves n table.now cells.old tags.old grades.old).tags }
     ensures grades { grades.new ≡ (unpack_leaves n table.now cells.old tags.old grades.old).grades }
 {
-    let sizes = size_fault(n, table);
-    match sizes {
-        Outcome::Refused(number, place) => Outcome::Refused(number, place),
-        Outcome::Accepted(m) => unpack_sized(n, m, table, cells, tags, grades),
-    }
+    let m = size_fault(n, table)?;
+    unpack_sized(n, m, table, cells, tags, grades)
 }

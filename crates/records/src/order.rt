@@ -9,10 +9,7 @@ use fields::{record_at, start, tag};
 pub fn comes_before(start: usize, tag: u32, start2: usize, tag2: u32) -> bool
     ensures { result ≡ precedes start tag start2 tag2 }
 {
-    if start == start2 {
-        return tag < tag2;
-    }
-    start < start2
+    (start, tag) < (start2, tag2)
 }
 
 // 13: record i comes before the one that it follows.
@@ -26,9 +23,9 @@ pub(crate) fn out_of_order(table: &[u8], i: usize) -> bool
     let part = record_at(table, i);
     let last = record_at(table, i - 1);
     comes_before(
-        start(part) as usize,
+        usize::from(start(part)),
         tag(part),
-        start(last) as usize,
+        usize::from(start(last)),
         tag(last),
     )
 }

@@ -13,7 +13,7 @@ use fragment_removal::fragment_keep_marks;
 use masks::{fill_masks, mask_room};
 use matrix::all_kept;
 use phasing::phase;
-use records::Outcome;
+use records::Refusal;
 use stages::removal_fault;
 
 // Settles the fragments and phases those kept. The keep marks are scratch.
@@ -63,18 +63,13 @@ pub fn least_fragment_removal(
     table: &[u8],
     work: &mut [u16],
     answer: &mut [u8],
-) -> Outcome
+) -> Result<usize, Refusal>
     ensures outcome { outcome_of result ≡ (fragment_removal_leaves n table.now answer.old work.old).outcome }
     ensures work { work.new ≡ (fragment_removal_leaves n table.now answer.old work.old).work }
     ensures answer { answer.new ≡ (fragment_removal_leaves n table.now answer.old work.old).answer }
     ensures meaning { FragmentSays n table.now answer.new (outcome_of result) }
 {
-    let fault = removal_fault(n, table, work, answer);
-    match fault {
-        Outcome::Refused(number, place) => Outcome::Refused(number, place),
-        Outcome::Accepted(m) => {
-            let count = remove_fragments(n, m, table, work, answer);
-            Outcome::Accepted(count)
-        }
-    }
+    let m = removal_fault(n, table, work, answer)?;
+    let count = remove_fragments(n, m, table, work, answer);
+    Ok(count)
 }

@@ -13,7 +13,7 @@ use masks::{fill_masks, mask_room};
 use matrix::all_kept;
 use phasing::phase;
 use ranks::table;
-use records::Outcome;
+use records::Refusal;
 use snp_removal::snp_keep_marks;
 use stages::removal_fault;
 
@@ -55,19 +55,19 @@ fn remove_snps(n: usize, m: usize, table: &[u8], answer: &mut [u8]) -> usize
 }
 
 // Accepted with the number of removed columns, the answer's 3n + 2m bytes, and the work all zero. A refusal writes nothing. Takes 14 KB of stack.
-pub fn least_snp_removal(n: usize, table: &[u8], work: &mut [u16], answer: &mut [u8]) -> Outcome
+pub fn least_snp_removal(
+    n: usize,
+    table: &[u8],
+    work: &mut [u16],
+    answer: &mut [u8],
+) -> Result<usize, Refusal>
     ensures outcome { outcome_of result ≡ (snp_removal_leaves n table.now answer.old work.old).outcome }
     ensures work { work.new ≡ (snp_removal_leaves n table.now answer.old work.old).work }
     ensures answer { answer.new ≡ (snp_removal_leaves n table.now answer.old work.old).answer }
     ensures meaning { SnpSays n table.now answer.new (outcome_of result) }
 {
-    let fault = removal_fault(n, table, work, answer);
-    match fault {
-        Outcome::Refused(number, place) => Outcome::Refused(number, place),
-        Outcome::Accepted(m) => {
-            let count = remove_snps(n, m, table, answer);
-            table::clear(work);
-            Outcome::Accepted(count)
-        }
-    }
+    let m = removal_fault(n, table, work, answer)?;
+    let count = remove_snps(n, m, table, answer);
+    table::clear(work);
+    Ok(count)
 }

@@ -12,7 +12,7 @@ ghost use Rattle.verdicts.specs.Meanings.{CheckSays};
 use masks::{fill_masks, mask_room};
 use matrix::all_kept;
 use phasing::phase;
-use records::{Outcome, records_fault, size_fault};
+use records::{Fault, Refusal, records_fault, size_fault};
 
 // Phases the whole table: on a yes the answer is written, on a no nothing.
 fn phase_table(n: usize, m: usize, table: &[u8], answer: &mut [u8]) -> bool
@@ -28,35 +28,28 @@ fn phase_table(n: usize, m: usize, table: &[u8], answer: &mut [u8]) -> bool
 }
 
 // Check once the sizes are kept: the answer's length, then the records.
-fn check_sized(n: usize, m: usize, table: &[u8], answer: &mut [u8]) -> Outcome
+fn check_sized(n: usize, m: usize, table: &[u8], answer: &mut [u8]) -> Result<usize, Refusal>
     requires { SizesKept n m table.now }
     ensures outcome { outcome_of result ≡ (check_leaves n table.now answer.old).outcome }
     ensures answer { answer.new ≡ (check_leaves n table.now answer.old).answer }
 {
     if answer.len() != 3 * n + 2 * m {
-        return Outcome::Refused(11, 0);
+        return Err(Fault::WrongBuffer.at(0));
     }
-    let rest = records_fault(n, table);
-    match rest {
-        Outcome::Refused(number, place) => Outcome::Refused(number, place),
-        Outcome::Accepted(_) => {
-            if phase_table(n, m, table, answer) {
-                return Outcome::Accepted(0);
-            }
-            Outcome::Accepted(1)
-        }
+    records_fault(n, table)?;
+    if phase_table(n, m, table, answer) {
+        Ok(0)
+    } else {
+        Ok(1)
     }
 }
 
 // Accepted with 0 for yes, and the whole answer; with 1 for no, and the answer untouched. A refusal writes nothing. Takes 8 KB of stack.
-pub fn check(n: usize, table: &[u8], answer: &mut [u8]) -> Outcome
+pub fn check(n: usize, table: &[u8], answer: &mut [u8]) -> Result<usize, Refusal>
     ensures outcome { outcome_of result ≡ (check_leaves n table.now answer.old).outcome }
     ensures answer { answer.new ≡ (check_leaves n table.now answer.old).answer }
     ensures meaning { CheckSays n table.now answer.new (outcome_of result) }
 {
-    let sizes = size_fault(n, table);
-    match sizes {
-        Outcome::Refused(number, place) => Outcome::Refused(number, place),
-        Outcome::Accepted(m) => check_sized(n, m, table, answer),
-    }
+    let m = size_fault(n, table)?;
+    check_sized(n, m, table, answer)
 }

@@ -21,7 +21,7 @@ pub returns-then-deep-n : goal.returns-then-deep-n
 returns-then-deep-n c =
     let spanned = c.fill_spans.ensures in
     let e = c.requires.correction_kept.kept in
-    clauses-outcome-work-answer-corrected (correction-deep _ _ _ _ _ c.requires.correction_kept (c.first_deep-deep.ensures ∙ table-deep (correction-sized _ _ _ _ _ _ e) (correction-kept _ _ _ _ _ _ e) c.requires.cells_value spanned) c.if-deep-n.true)
+    rw c.at.ensures (clauses-outcome-work-answer-corrected (correction-deep _ _ _ _ _ c.requires.correction_kept (c.first_deep-deep.ensures ∙ table-deep (correction-sized _ _ _ _ _ _ e) (correction-kept _ _ _ _ _ _ e) c.requires.cells_value spanned) c.if-deep-n.true))
 
 pub correct_table-total-requires : goal.correct_table-total-requires
 correct_table-total-requires c =

@@ -1,8 +1,8 @@
 -- `counts::counts_sized` meets its contract.
 -- Assumes nothing.
-use mathlib.Core.Path.{sym, ap, ◌∙◌}
+use mathlib.Core.Path.{sym, ◌∙◌}
 use Rattle.below.proofs.RowLaws.{product-fits}
-use Rattle.records.specs.Outcome.{outcome_of}
+use Rattle.records.proofs.OutcomeLaws.{passed_on}
 use Rattle.records.proofs.AcceptedLaws.{sized-m}
 use Rattle.counting.proofs.CountingLaws.{counts-refuses, counts-length, counts-records, counts-accepts}
 use Rattle.counting.proofs.counts.counts_sized.Goals as goal
@@ -14,17 +14,17 @@ pub overflow_mul-m : goal.overflow_mul-m
 overflow_mul-m c = let few = sized-m c.requires in record { fits = product-fits few few }
 
 pub returns-then-counts-m : goal.returns-then-counts-m
-returns-then-counts-m c =
-    clauses-outcome-counts (counts-refuses _ _ _ 11 0 (counts-length _ _ _ c.args.m c.requires c.if-counts-m.true))
+returns-then-counts-m c = rw c.at.ensures (clauses-outcome-counts (counts-refuses _ _ _ 11 0 (counts-length _ _ _ c.args.m c.requires c.if-counts-m.true)))
+
+pub returns-in_err-records_fault : goal.returns-in_err-records_fault
+returns-in_err-records_fault c =
+    rw (passed_on _ _ c.from_residual.ensures)
+    (clauses-outcome-counts (counts-refuses _ _ _ _ _ (counts-records _ _ _ c.args.m c.requires c.if-counts-m.false ∙ sym c.in_err-records_fault.ensures)))
 
 pub count_table-requires : goal.count_table-requires
-count_table-requires c = record { sizes_kept = (c.requires, record { count = _; kept = sym c.records_fault-rest.ensures ∙ ap outcome_of c.in-Accepted.is }); counts_len = c.if-counts-m.false }
+count_table-requires c = record { sizes_kept = (c.requires, record { count = _; kept = sym c.in_ok-records_fault.ensures }); counts_len = c.if-counts-m.false }
 
-pub returns-in-Refused : goal.returns-in-Refused
-returns-in-Refused c =
-    clauses-outcome-counts (counts-refuses _ _ _ _ _ (counts-records _ _ _ c.args.m c.requires c.if-counts-m.false ∙ sym c.records_fault-rest.ensures ∙ ap outcome_of c.in-Refused.is))
-
-pub returns-in-Accepted : goal.returns-in-Accepted
-returns-in-Accepted c =
+pub returns : goal.returns
+returns c =
     let a = c.args in
-    clauses-outcome-counts (counts-accepts a.n a.table.now a.counts.now a.m c.requires _ c.if-counts-m.false (sym c.records_fault-rest.ensures ∙ ap outcome_of c.in-Accepted.is) c.count_table.ensures)
+    clauses-outcome-counts (counts-accepts a.n a.table.now a.counts.now a.m c.requires _ c.if-counts-m.false (sym c.in_ok-records_fault.ensures) c.count_table.ensures)

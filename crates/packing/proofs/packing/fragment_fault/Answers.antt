@@ -12,7 +12,7 @@ use Rattle.packing.proofs.packing.fragment_fault.Goals as goal
 
 pub returns-then-byte-gt15 : goal.returns-then-byte-gt15
 unfolding fragment_rules
-returns-then-byte-gt15 c = sym (rule-broken _ _ _ (ap (λ (g : ℕ). 15 <? g) (sym c.byte.ensures) ∙ <?-true _ _ c.if-byte-gt15.true))
+returns-then-byte-gt15 c = rw c.at.ensures (sym (rule-broken _ _ _ (ap (λ (g : ℕ). 15 <? g) (sym c.byte.ensures) ∙ <?-true _ _ c.if-byte-gt15.true)))
 
 pub ungraded_fault-requires : goal.ungraded_fault-requires
 ungraded_fault-requires c =

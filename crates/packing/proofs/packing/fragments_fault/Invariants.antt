@@ -1,7 +1,7 @@
 -- `packing::fragments_fault` meets its contract. The loop's invariant: the verdict is that of the fragments from i on.
 -- Assumes nothing.
 use mathlib.Core.Path.{◌≡◌}
-use Prim.Native.Nat.{◌-◌, ◌≤◌, ◌<◌}
+use Prim.Native.Nat.{◌-◌, ◌<◌}
 use lib.ListN.{length}
 use Rattle.records.proofs.RuleLaws.{from_row}
 use Rattle.records.specs.Rules.{decide}
@@ -12,9 +12,5 @@ use Rattle.packing.proofs.packing.fragments_fault.Given as goal
 
 abbrev pub invariant-loop-i : goal.invariant-loop-i
 invariant-loop-i l = (l.m ≡ length l.tags)
-    × (l.i ≤ l.m)
     × (0 < l.i → l.last ≡ packed_start l.n l.cells (l.i - 1))
     × (decide (fragments_rules l.n l.cells l.tags l.grades) (accepted (length l.tags)) ≡ from_row (fragment_rules l.n l.cells l.tags l.grades) (accepted (length l.tags)) l.i l.m)
-
-abbrev pub decreases-loop-i : goal.decreases-loop-i
-decreases-loop-i l = l.m - l.i

@@ -1,14 +1,13 @@
 -- `packing::out_of_order` meets its contract.
 -- Assumes nothing.
-use native.Mathlib.Omega.{arith}
-use Rattle.below.specs.Below.{◌and◌}
+use Rattle.below.specs.Below.{◌and◌, ◌<?◌}
 use Rattle.below.proofs.SearchLaws.{<?-true, <?-false}
 use Rattle.packing.proofs.packing.out_of_order.Goals as goal
 
-pub returns-then-i-eq0 : goal.returns-then-i-eq0
-unfolding ◌and◌
-returns-then-i-eq0 c = rw (<?-false 0 c.args.i (omega arith))
+pub returns-else-i-gt0 : goal.returns-else-i-gt0
+unfolding ◌and◌ ◌<?◌
+returns-else-i-gt0 c = rw (<?-false 0 c.args.i c.if-i-gt0.false)
 
-pub returns : goal.returns
+pub returns-then-i-gt0 : goal.returns-then-i-gt0
 unfolding ◌and◌
-returns c = rw (<?-true 0 c.args.i (omega arith)) c.comes_before.ensures
+returns-then-i-gt0 c = rw (<?-true 0 c.args.i c.if-i-gt0.true) c.comes_before.ensures

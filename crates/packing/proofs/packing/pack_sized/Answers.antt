@@ -2,7 +2,9 @@
 -- Assumes nothing.
 use mathlib.Core.Path.{sym, ◌∙◌}
 use native.Mathlib.Omega.{arith}
-use Rattle.packing.proofs.PackLaws.{pack-length, pack-fragments, pack-refuses, refused-untouched, kept-written, kept-fragments, clauses-outcome-table}
+use Rattle.records.proofs.OutcomeLaws.{passed_on}
+use Rattle.records.proofs.RuleLaws.{decide-accepted}
+use Rattle.packing.proofs.PackLaws.{pack-length, pack-fragments, pack-refuses, pack-accepts, clauses-outcome-table}
 use Rattle.packing.proofs.SizeLaws.{pack-m}
 use Rattle.packing.proofs.packing.pack_sized.Goals as goal
 
@@ -12,23 +14,17 @@ overflow_mul-tags c =
 
 pub returns-then-table-tags : goal.returns-then-table-tags
 returns-then-table-tags c =
-    clauses-outcome-table (pack-refuses _ _ _ _ _ 11 0 (pack-length _ _ _ _ _ c.requires c.if-table-tags.true))
+    rw c.at.ensures (clauses-outcome-table (pack-refuses _ _ _ _ _ 11 0 (pack-length _ _ _ _ _ c.requires c.if-table-tags.true)))
 
-pub returns-then-is_refusal : goal.returns-then-is_refusal
-returns-then-is_refusal c =
-    let o = pack-fragments _ _ _ _ _ c.requires c.if-table-tags.false ∙ sym c.fragments_fault-rest.ensures in
-    record { outcome = sym o; table = refused-untouched _ _ _ _ _ _ o (sym c.is_refusal.ensures ∙ c.if-is_refusal.true) }
+pub returns-in_err-m : goal.returns-in_err-m
+returns-in_err-m c =
+    rw (passed_on _ _ c.from_residual.ensures) (clauses-outcome-table (pack-refuses _ _ _ _ _ _ _ (pack-fragments _ _ _ _ _ c.requires c.if-table-tags.false ∙ sym c.in_err-m.ensures)))
 
 pub fill_table-requires : goal.fill_table-requires
 fill_table-requires c =
-    let if1 = c.if-table-tags in
-    record { pack_sized = c.requires; fragments_kept = kept-fragments _ _ _ _ _ c.fragments_fault-rest.ensures (sym c.is_refusal.ensures ∙ c.if-is_refusal.false); table_len = if1.false }
+    record { pack_sized = c.requires; fragments_kept = record { kept = decide-accepted _ _ _ _ (sym c.in_ok-m.ensures) }; table_len = c.if-table-tags.false }
 
 pub returns : goal.returns
 returns c =
-    let if2 = c.if-is_refusal in
-    let is-refusal = c.is_refusal in
-    let fragments-fault = c.fragments_fault-rest in
-    let if1 = c.if-table-tags in
-    let o = pack-fragments _ _ _ _ _ c.requires if1.false ∙ sym fragments-fault.ensures in
-    record { outcome = sym o; table = c.fill_table.ensures ∙ kept-written _ _ _ _ _ _ o (sym is-refusal.ensures ∙ if2.false) }
+    let r = pack-accepts _ _ _ _ _ _ (pack-fragments _ _ _ _ _ c.requires c.if-table-tags.false ∙ sym c.in_ok-m.ensures) in
+    record { outcome = r.0; table = c.fill_table.ensures ∙ r.1 }

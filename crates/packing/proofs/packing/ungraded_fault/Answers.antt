@@ -35,7 +35,7 @@ unknown-is c = sym (row-unknown _ _ _ refl c.requires.n_bound.2) ∙ sym c.any_u
 
 pub returns-then-any_unknown : goal.returns-then-any_unknown
 unfolding ungraded_rules
-returns-then-any_unknown c = sym (rule-broken _ _ _ (unknown-is (goal.at.returns-then-any_unknown c).After-any_unknown ∙ c.if-any_unknown.true))
+returns-then-any_unknown c = rw c.at.ensures (sym (rule-broken _ _ _ (unknown-is (goal.at.returns-then-any_unknown c).After-any_unknown ∙ c.if-any_unknown.true)))
 
 -- 17, from the end that is read
 empty-is : (c : After-calls_end-end)
@@ -53,7 +53,7 @@ span-is c =
 
 pub returns-then-end-eq0 : goal.returns-then-end-eq0
 unfolding ungraded_rules
-returns-then-end-eq0 c = sym (rule-kept _ _ _ (unknown-is (goal.at.returns-then-end-eq0 c).After-any_unknown ∙ c.if-any_unknown.false) ∙ rule-broken _ _ _ (empty-is (goal.at.returns-then-end-eq0 c).After-calls_end-end ∙ =?-true _ _ c.if-end-eq0.true))
+returns-then-end-eq0 c = rw c.at-then-end-eq0.ensures (sym (rule-kept _ _ _ (unknown-is (goal.at.returns-then-end-eq0 c).After-any_unknown ∙ c.if-any_unknown.false) ∙ rule-broken _ _ _ (empty-is (goal.at.returns-then-end-eq0 c).After-calls_end-end ∙ =?-true _ _ c.if-end-eq0.true)))
 
 -- 6 and 17 are kept
 past-17 : (c : Else-end-eq0)
@@ -67,7 +67,7 @@ overflow_sub-end c =
     start-within _ _ _ refl c.requires.n_bound.2 c.requires.starts.here c.calls_end-end.ensures
 
 pub returns-then-end-start-gt96 : goal.returns-then-end-start-gt96
-returns-then-end-start-gt96 c = sym (past-17 (goal.at.returns-then-end-start-gt96 c).Else-end-eq0 ∙ rule-broken _ _ _ (span-is (goal.at.returns-then-end-start-gt96 c).After-calls_end-end ∙ <?-true _ _ c.if-end-start-gt96.true))
+returns-then-end-start-gt96 c = rw c.at-then-end-start-gt96.ensures (sym (past-17 (goal.at.returns-then-end-start-gt96 c).Else-end-eq0 ∙ rule-broken _ _ _ (span-is (goal.at.returns-then-end-start-gt96 c).After-calls_end-end ∙ <?-true _ _ c.if-end-start-gt96.true)))
 
 -- 4 is kept too
 past-4 : (c : Else-end-start-gt96)
@@ -77,7 +77,7 @@ past-4 c = rule-kept _ _ _ (ap (λ (s : ℕ). 96 <? s) (span-read _ _ _ refl c.r
 
 pub returns-then-tag_before : goal.returns-then-tag_before
 unfolding earlier_rules
-returns-then-tag_before c = sym (past-17 (goal.at.returns-then-tag_before c).Else-end-eq0 ∙ past-4 (goal.at.returns-then-tag_before c).Else-end-start-gt96 ∙ rule-broken _ _ _ (sym c.tag_before.ensures ∙ c.if-tag_before.true))
+returns-then-tag_before c = rw c.at-then-tag_before.ensures (sym (past-17 (goal.at.returns-then-tag_before c).Else-end-eq0 ∙ past-4 (goal.at.returns-then-tag_before c).Else-end-start-gt96 ∙ rule-broken _ _ _ (sym c.tag_before.ensures ∙ c.if-tag_before.true)))
 
 -- 9 is kept too
 past-9 : (c : After-out_of_order)
@@ -89,7 +89,7 @@ past-9 c =
     ∙ ap (λ b. decide (rule 13 c.args.i b ∷ []) (accepted 0)) (order-read _ _ c.args.tags.now c.args.i c.requires.starts c.out_of_order.ensures)
 
 pub returns-then-out_of_order : goal.returns-then-out_of_order
-returns-then-out_of_order c = sym (past-17 (goal.at.returns-then-out_of_order c).Else-end-eq0 ∙ past-4 (goal.at.returns-then-out_of_order c).Else-end-start-gt96 ∙ past-9 (goal.at.returns-then-out_of_order c).After-out_of_order ∙ rule-broken _ _ _ c.if-out_of_order.true)
+returns-then-out_of_order c = rw c.at-then-out_of_order.ensures (sym (past-17 (goal.at.returns-then-out_of_order c).Else-end-eq0 ∙ past-4 (goal.at.returns-then-out_of_order c).Else-end-start-gt96 ∙ past-9 (goal.at.returns-then-out_of_order c).After-out_of_order ∙ rule-broken _ _ _ c.if-out_of_order.true))
 
 pub returns : goal.returns
 returns c = sym (past-17 (goal.at.returns c).Else-end-eq0 ∙ past-4 (goal.at.returns c).Else-end-start-gt96 ∙ past-9 (goal.at.returns c).After-out_of_order ∙ rule-kept _ _ _ c.if-out_of_order.false ∙ decide-none _)

@@ -1,4 +1,3 @@
-use Prim.Native.Nat.{◌-◌}
 use Rattle.fields.specs.Record.{tag_of}
 use Rattle.fields.specs.Table.{fragments, record_bytes_at}
 use Rattle.below.proofs.FillLaws.{Filled}
@@ -6,6 +5,3 @@ use Rattle.packing.proofs.unpacking.fill_tags.Given as goal
 
 abbrev pub invariant-loop-i : goal.invariant-loop-i
 invariant-loop-i l = Filled (fragments l.table) (λ j. tag_of (record_bytes_at l.table j)) l.i l.tags
-
-abbrev pub decreases-loop-i : goal.decreases-loop-i
-decreases-loop-i l = fragments l.table - l.i

@@ -1,20 +1,20 @@
-use mathlib.Core.Path.{◌≡◌, refl}
+use mathlib.Core.Path.{◌≡◌, refl, ◌∙◌}
 use mathlib.Core.Bool.{Bool, true, false}
-use Rattle.below.specs.Below.{◌and◌, ◌or◌, ◌<?◌}
+use Rattle.std.specs.Prelude.{cond, ◌&&◌, ◌||◌, Some}
+use Rattle.std.specs.declared.cmp.Ordering.TheVariants.{Less, Equal, Greater}
+use Rattle.std.specs.Ordering.{partial_ordering_then, is_some_and, is_lt}
+use Rattle.below.specs.Below.{◌and◌, ◌or◌, ◌=?◌, ◌<?◌}
 use Rattle.records.specs.Rules.{precedes}
-use Rattle.below.proofs.SearchLaws.{<?-false, =?-true, =?-false}
-use native.Mathlib.Omega.{arith}
 use Rattle.records.proofs.order.comes_before.Goals as goal
 
-or-false : (b : Bool) → b ≡ (b or false)
-unfolding ◌or◌
-or-false true = refl
-or-false false = refl
-
-pub returns-then-start-start2 : goal.returns-then-start-start2
-unfolding precedes ◌and◌ ◌or◌ ◌<?◌
-returns-then-start-start2 c = rw (<?-false c.args.start c.args.start2 (omega arith), =?-true _ _ c.if-start-start2.true)
+-- two pairs compare by their first numbers, and where these are the same by their second ones
+by-pairs : (a b c d : Bool) → is_some_and is_lt (partial_ordering_then (Some (cond a Less (cond b Equal Greater))) (Some (cond c Less (cond d Equal Greater)))) ≡ (a || b && c)
+by-pairs true b c d = refl
+by-pairs false true true d = refl
+by-pairs false true false true = refl
+by-pairs false true false false = refl
+by-pairs false false c d = refl
 
 pub returns : goal.returns
-unfolding precedes ◌and◌ ◌<?◌
-returns c = rw (=?-false _ _ c.if-start-start2.false) (or-false _)
+unfolding precedes ◌and◌ ◌or◌ ◌=?◌ ◌<?◌
+returns c = c.lt.ensures ∙ by-pairs _ _ _ _

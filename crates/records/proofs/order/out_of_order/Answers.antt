@@ -18,4 +18,4 @@ returns c =
     let i = c.args.i in
     let here = part-record _ i _ part.ensures c.requires in
     let there = part-record _ (i - 1) _ last.ensures (omega arith) in
-    rw (<?-true 0 i (omega arith), ← here, ← there, ← c.start.ensures, ← c.tag.ensures, ← c.start-2.ensures, ← c.tag-2.ensures) c.comes_before.ensures
+    rw (<?-true 0 i (omega arith), ← here, ← there, ← c.start.ensures, ← c.from.ensures, ← c.tag.ensures, ← c.start-2.ensures, ← c.from-2.ensures, ← c.tag-2.ensures) c.comes_before.ensures

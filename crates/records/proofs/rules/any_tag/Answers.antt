@@ -20,16 +20,16 @@ unfolding record_bytes_at
 tag_read c = c.tag.ensures ∙ ap (λ (k : ℕ). tag_of (take k (drop (32 * c.loop-h.h) c.args.table.now))) (add-sub_cancel_left (32 * c.loop-h.h) 32)
 
 pub loop-h-init : goal.loop-h-init
-loop-h-init c = (search rules, none_yet _)
+loop-h-init c = none_yet _
 
 pub returns-then-tag-sought : goal.returns-then-tag-sought
 returns-then-tag-sought c = sym (any-hit _ _ c.loop-h.h (omega arith) (=?-true _ _ (sym (tag_read (goal.at.returns-then-tag-sought c).After-tag) ∙ c.if-tag-sought.true)))
 
 pub loop-h-preserved : goal.loop-h-preserved
-loop-h-preserved c = (search rules, none_more _ _ c.loop-h.invariant.1 (=?-false _ _ (λ e. c.if-tag-sought.false (tag_read (goal.at.loop-h-preserved c).After-tag ∙ e))))
+loop-h-preserved c = none_more _ _ c.loop-h.invariant (=?-false _ _ (λ e. c.if-tag-sought.false (tag_read (goal.at.loop-h-preserved c).After-tag ∙ e)))
 
 pub returns : goal.returns
-returns c = sym (any_none _ _ c.loop-h.h c.loop-h-test.false c.loop-h.invariant.1)
+returns c = sym (any_none _ _ c.loop-h.h c.loop-h-test.false c.loop-h.invariant)
 
 pub overflow_mul-from : goal.overflow_mul-from
 overflow_mul-from c = let h = whole (goal.at.overflow_mul-from c).In-loop-h in search rules

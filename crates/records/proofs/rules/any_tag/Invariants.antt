@@ -1,4 +1,3 @@
-use Prim.Native.Nat.{◌-◌, ◌≤◌}
 use Rattle.below.specs.Below.{◌=?◌}
 use Rattle.fields.specs.Record.{tag_of}
 use Rattle.fields.specs.Table.{record_bytes_at}
@@ -6,7 +5,4 @@ use Rattle.below.proofs.SearchLaws.{NoneBelow}
 use Rattle.records.proofs.rules.any_tag.Given as goal
 
 abbrev pub invariant-loop-h : goal.invariant-loop-h
-invariant-loop-h l = (l.h ≤ l.i) × NoneBelow l.h (λ j. tag_of (record_bytes_at l.table j) =? l.sought)
-
-abbrev pub decreases-loop-h : goal.decreases-loop-h
-decreases-loop-h l = l.i - l.h
+invariant-loop-h l = NoneBelow l.h (λ j. tag_of (record_bytes_at l.table j) =? l.sought)

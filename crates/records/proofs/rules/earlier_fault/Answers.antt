@@ -17,11 +17,11 @@ twice-is c =
 
 pub returns-then-any_tag : goal.returns-then-any_tag
 unfolding earlier_rules
-returns-then-any_tag c = sym (rule-broken _ _ _ (sym (twice-is (goal.at.returns-then-any_tag c).After-any_tag) ∙ c.if-any_tag.true))
+returns-then-any_tag c = rw c.at.ensures (sym (rule-broken _ _ _ (sym (twice-is (goal.at.returns-then-any_tag c).After-any_tag) ∙ c.if-any_tag.true)))
 
 pub returns-then-out_of_order : goal.returns-then-out_of_order
 unfolding earlier_rules
-returns-then-out_of_order c = sym (rule-kept _ _ _ (sym (twice-is (goal.at.returns-then-out_of_order c).After-any_tag) ∙ c.if-any_tag.false) ∙ rule-broken _ _ _ (sym c.out_of_order.ensures ∙ c.if-out_of_order.true))
+returns-then-out_of_order c = rw c.at-then-out_of_order.ensures (sym (rule-kept _ _ _ (sym (twice-is (goal.at.returns-then-out_of_order c).After-any_tag) ∙ c.if-any_tag.false) ∙ rule-broken _ _ _ (sym c.out_of_order.ensures ∙ c.if-out_of_order.true)))
 
 pub returns : goal.returns
 unfolding earlier_rules

@@ -1,4 +1,3 @@
-use Prim.Native.Nat.{◌-◌, ◌≤◌}
 use mathlib.Core.Path.{◌≡◌}
 use Rattle.fields.specs.Table.{fragments}
 use Rattle.records.specs.Outcome.{accepted}
@@ -10,8 +9,4 @@ use Rattle.records.proofs.rules.first_fault.Given as goal
 
 abbrev pub invariant-loop-i : goal.invariant-loop-i
 invariant-loop-i l = (l.m ≡ fragments l.table)
-    × (l.i ≤ l.m)
     × (decide (concat (tab (fragments l.table) (rules_of l.gapless l.n l.table))) (accepted (fragments l.table)) ≡ from_row (rules_of l.gapless l.n l.table) (accepted (fragments l.table)) l.i l.m)
-
-abbrev pub decreases-loop-i : goal.decreases-loop-i
-decreases-loop-i l = l.m - l.i

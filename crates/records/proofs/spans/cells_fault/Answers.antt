@@ -14,14 +14,14 @@ use Rattle.records.proofs.spans.cells_fault.Goals as goal
 use Rattle.records.proofs.spans.cells_fault.Goals.{After-either-calls, After-first-inside, After-hole_refused, After-unknown_call, Else-open_end, Else-stray_bits, Else-unknown_call}
 
 pub first-inside-requires : goal.first-inside-requires
-first-inside-requires c = let e = c.span.ensures in let p = c.requires in omega arith
+first-inside-requires c = let e = c.span.ensures in let f = c.from.ensures in let p = c.requires in omega arith
 
 -- the calls, and the places of the span
 calls_is : (c : After-either-calls) → c.either-calls.result ≡ calls_of c.args.part.now
 calls_is c = c.either-calls.ensures ∙ calls_are _ c.letters_of-letters.ensures
 
 inside_is : (c : After-first-inside) → c.first-inside.result ≡ places_where (λ k. k <? span_of c.args.part.now)
-inside_is c = c.first-inside.ensures ∙ ap (λ (e : ℕ). places_where (λ k. k <? e)) c.span.ensures
+inside_is c = c.first-inside.ensures ∙ ap (λ (e : ℕ). places_where (λ k. k <? e)) (c.from.ensures ∙ c.span.ensures)
 
 pub stray_bits-requires : goal.stray_bits-requires
 stray_bits-requires c = (calls_is (goal.at.stray_bits-requires c).After-either-calls, inside_is (goal.at.stray_bits-requires c).After-first-inside)
@@ -52,14 +52,14 @@ hole-is c calls inside six seven = c.hole_refused.ensures ∙ ap (λ (b : Bool).
 
 pub returns-then-stray_bits : goal.returns-then-stray_bits
 unfolding cell_rules
-returns-then-stray_bits c = sym (rule-broken _ _ _ (sym c.stray_bits.ensures ∙ c.if-stray_bits.true))
+returns-then-stray_bits c = rw c.at.ensures (sym (rule-broken _ _ _ (sym c.stray_bits.ensures ∙ c.if-stray_bits.true)))
 
 pub returns-then-unknown_call : goal.returns-then-unknown_call
 unfolding cell_rules
 returns-then-unknown_call c =
     let at = goal.at.returns-then-unknown_call c in
     let five = kept-5 at.Else-stray_bits in
-    sym (rule-kept _ _ _ five ∙ rule-broken _ _ _ (sym (unknown-is at.After-unknown_call five) ∙ c.if-unknown_call.true))
+    rw c.at-then-unknown_call.ensures (sym (rule-kept _ _ _ five ∙ rule-broken _ _ _ (sym (unknown-is at.After-unknown_call five) ∙ c.if-unknown_call.true)))
 
 pub returns-then-open_end : goal.returns-then-open_end
 unfolding cell_rules
@@ -67,7 +67,7 @@ returns-then-open_end c =
     let at = goal.at.returns-then-open_end c in
     let five = kept-5 at.Else-stray_bits in
     let six = kept-6 at.Else-unknown_call (unknown-is at.After-unknown_call five) in
-    sym (rule-kept _ _ _ five ∙ rule-kept _ _ _ six ∙ rule-broken _ _ _ (sym c.open_end.ensures ∙ c.if-open_end.true))
+    rw c.at-then-open_end.ensures (sym (rule-kept _ _ _ five ∙ rule-kept _ _ _ six ∙ rule-broken _ _ _ (sym c.open_end.ensures ∙ c.if-open_end.true)))
 
 pub returns-then-hole_refused : goal.returns-then-hole_refused
 unfolding cell_rules
@@ -77,7 +77,7 @@ returns-then-hole_refused c =
     let six = kept-6 at.Else-unknown_call (unknown-is at.After-unknown_call five) in
     let seven = kept-7 at.Else-open_end in
     let hole = hole-is at.After-hole_refused (calls_is at.After-either-calls) (inside_is at.After-first-inside) six seven in
-    sym (rule-kept _ _ _ five ∙ rule-kept _ _ _ six ∙ rule-kept _ _ _ seven ∙ rule-broken _ _ _ (sym hole ∙ c.if-hole_refused.true))
+    rw c.at-then-hole_refused.ensures (sym (rule-kept _ _ _ five ∙ rule-kept _ _ _ six ∙ rule-kept _ _ _ seven ∙ rule-broken _ _ _ (sym hole ∙ c.if-hole_refused.true)))
 
 pub returns : goal.returns
 unfolding cell_rules

@@ -7,6 +7,6 @@ pub returns-then-gapless : goal.returns-then-gapless
 unfolding ◌and◌
 returns-then-gapless c = rw c.if-gapless.true (c.any.ensures ∙ ap occupied c.without.ensures)
 
-pub returns : goal.returns
+pub returns-else-gapless : goal.returns-else-gapless
 unfolding ◌and◌
-returns c = rw c.if-gapless.false
+returns-else-gapless c = rw c.if-gapless.false

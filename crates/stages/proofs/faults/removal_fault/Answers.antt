@@ -1,12 +1,12 @@
 -- `stages::removal_fault` meets its contract.
 -- Assumes nothing.
-use mathlib.Core.Path.{sym, ap, ◌∙◌}
-use Rattle.records.specs.Outcome.{outcome_of}
+use mathlib.Core.Path.{sym, ◌∙◌}
+use Rattle.records.proofs.OutcomeLaws.{passed_on}
 use Rattle.stages.proofs.StageLaws.{removal-lent, removal-records}
 use Rattle.stages.proofs.faults.removal_fault.Goals as goal
 
-pub returns-in-Refused : goal.returns-in-Refused
-returns-in-Refused c = sym (removal-lent _ _ _ _ _ _ (sym c.lent_fault-lent.ensures ∙ ap outcome_of c.in-Refused.is))
+pub returns-in_err-lent_fault : goal.returns-in_err-lent_fault
+returns-in_err-lent_fault c = passed_on _ _ c.from_residual.ensures ∙ sym (removal-lent _ _ _ _ _ _ (sym c.in_err-lent_fault.ensures))
 
-pub returns-in-Accepted : goal.returns-in-Accepted
-returns-in-Accepted c = c.gapless_fault.ensures ∙ sym (removal-records _ _ _ _ _ (sym c.lent_fault-lent.ensures ∙ ap outcome_of c.in-Accepted.is))
+pub returns : goal.returns
+returns c = c.gapless_fault.ensures ∙ sym (removal-records _ _ _ _ _ (sym c.in_ok-lent_fault.ensures))

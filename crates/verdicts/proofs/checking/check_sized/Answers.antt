@@ -1,10 +1,10 @@
 use mathlib.Core.Bool.{Bool}
-use mathlib.Core.Path.{◌≡◌, subst, sym, ap, ◌∙◌}
+use mathlib.Core.Path.{◌≡◌, subst, sym, ◌∙◌}
 use Rattle.conflicts.specs.Choice.{keep_all}
 use Rattle.conflicts.specs.Grid.{grid_of}
 use Rattle.phasing.specs.Algorithm.Answer.{AnswerFound}
 use Rattle.records.proofs.RuleLaws.{decide-refused}
-use Rattle.records.specs.Outcome.{outcome_of}
+use Rattle.records.proofs.OutcomeLaws.{passed_on}
 use Rattle.conflicts.specs.Answer.{answer_size}
 use Rattle.records.proofs.AcceptedLaws.{sized-n, sized-m}
 use Rattle.verdicts.proofs.CheckLaws.{check-length, check-records, check-refuses, check-says}
@@ -34,30 +34,25 @@ overflow_add-n c =
 pub returns-then-answer-n : goal.returns-then-answer-n
 unfolding answer_size
 returns-then-answer-n c =
-    clauses-outcome-answer (check-refuses _ _ _ 11 0 (check-length _ _ _ c.args.m c.requires c.if-answer-n.true))
+    rw c.at.ensures (clauses-outcome-answer (check-refuses _ _ _ 11 0 (check-length _ _ _ c.args.m c.requires c.if-answer-n.true)))
 
 pub phase_table-requires : goal.phase_table-requires
 unfolding answer_size
 phase_table-requires c =
-    let if1 = c.if-answer-n in
-    record { sizes_kept = (c.requires, record { count = _; kept = sym c.records_fault-rest.ensures ∙ ap outcome_of c.in-Accepted.is }); answer_len = if1.false }
+    record { sizes_kept = (c.requires, record { count = _; kept = sym c.in_ok-records_fault.ensures }); answer_len = c.if-answer-n.false }
 
 pub returns-then-phase_table : goal.returns-then-phase_table
 unfolding answer_size
 returns-then-phase_table c =
-    let records-fault = c.records_fault-rest in
-    let if1 = c.if-answer-n in
-    clauses-outcome-answer (check-says _ _ _ c.args.m c.requires _ _ _ if1.false (sym records-fault.ensures ∙ ap outcome_of c.in-Accepted.is) (said (goal.at.returns-then-phase_table c).After-phase_table _ c.if-phase_table.true))
+    clauses-outcome-answer (check-says _ _ _ c.args.m c.requires _ _ _ c.if-answer-n.false (sym c.in_ok-records_fault.ensures) (said (goal.at.returns-then-phase_table c).After-phase_table _ c.if-phase_table.true))
 
-pub returns-in-Refused : goal.returns-in-Refused
+pub returns-in_err-records_fault : goal.returns-in_err-records_fault
 unfolding answer_size
-returns-in-Refused c =
-    let if1 = c.if-answer-n in
-    clauses-outcome-answer (check-refuses _ _ _ _ _ (check-records _ _ _ c.args.m c.requires if1.false ∙ decide-refused _ _ _ _ _ (sym c.records_fault-rest.ensures ∙ ap outcome_of c.in-Refused.is)))
+returns-in_err-records_fault c =
+    rw (passed_on _ _ c.from_residual.ensures)
+    (clauses-outcome-answer (check-refuses _ _ _ _ _ (check-records _ _ _ c.args.m c.requires c.if-answer-n.false ∙ decide-refused _ _ _ _ _ (sym c.in_err-records_fault.ensures))))
 
 pub returns-else-phase_table : goal.returns-else-phase_table
 unfolding answer_size
 returns-else-phase_table c =
-    let records-fault = c.records_fault-rest in
-    let if1 = c.if-answer-n in
-    clauses-outcome-answer (check-says _ _ _ c.args.m c.requires _ _ _ if1.false (sym records-fault.ensures ∙ ap outcome_of c.in-Accepted.is) (said (goal.at.returns-else-phase_table c).After-phase_table _ c.if-phase_table.false))
+    clauses-outcome-answer (check-says _ _ _ c.args.m c.requires _ _ _ c.if-answer-n.false (sym c.in_ok-records_fault.ensures) (said (goal.at.returns-else-phase_table c).After-phase_table _ c.if-phase_table.false))
