@@ -1,18 +1,18 @@
 // The lines of a listing.
 ghost use Rattle.std.specs.Prelude.{◌≡◌, ◌++◌, ◌+◌, ◌*◌, ◌≤◌, length};
-ghost use Rattle.records.specs.Outcome.{outcome_of};
+ghost use Rattle.records.specs.Outcome.{number_of, outcome_of};
 ghost use Rattle.conflicts.specs.Answer.{answer_size};
 ghost use Rattle.below.specs.Text.{ascii};
 ghost use Rattle.listing.specs.Algorithm.Letters.{letter_of};
-ghost use Rattle.listing.specs.Listing.{decimal, line, refusal, fields, sizes_line, error_free_line, service_line};
+ghost use Rattle.listing.specs.Listing.{decimal, line, refusal as refusal_words, fields, sizes_line, error_free_line, service_line};
 
 use crate::answers::{put_block_field, put_field};
 use crate::service::Service;
 use crate::sizes::Sizes;
 use crate::text::{ROOM, Text};
-use records::Outcome;
+use records::Refusal;
 
-// A number after a text, another after another, and a line feed.
+// A text and a number, twice, and a line feed.
 fn put_numbers(s: &[u8], x: usize, t: &[u8], y: usize, out: &mut Text)
     requires short { length s.now + length t.now ≤ 19 }
     requires room { length out.old + 60 ≤ ROOM }
@@ -26,14 +26,23 @@ fn put_numbers(s: &[u8], x: usize, t: &[u8], y: usize, out: &mut Text)
     out.push(b'\n');
 }
 
-pub(crate) fn put_refusal(number: u8, place: usize, out: &mut Text)
+// A refusal by the number of its rule in the paper.
+pub(crate) fn put_refusal(refusal: Refusal, out: &mut Text)
     requires { length out.old + 60 ≤ ROOM }
-    ensures appended { out.new ≡ out.old ++ line (refusal number place) }
+    ensures appended { out.new ≡ out.old ++ line (refusal_words (number_of refusal.fault) refusal.place) }
     ensures within { length out.new ≤ length out.old + 60 }
 {
-    put_numbers(b"refused ", usize::from(number), b" at ", place, out);
+    let Refusal { fault, place } = refusal;
+    put_numbers(
+        b"refused ",
+        usize::from(fault.number()),
+        b" at ",
+        place,
+        out,
+    );
 }
 
+// The first line.
 pub(crate) fn put_sizes(sizes: Sizes, out: &mut Text)
     requires { length out.old + 60 ≤ ROOM }
     ensures appended { out.new ≡ out.old ++ sizes_line sizes.m sizes.n }
@@ -42,14 +51,14 @@ pub(crate) fn put_sizes(sizes: Sizes, out: &mut Text)
     put_numbers(b"fragments ", sizes.m, b" snps ", sizes.n, out);
 }
 
-// The second line, by what check says: it refuses no table that is accepted (`services-say` in proofs/LineMeanings).
-pub(crate) fn put_error_free(outcome: Outcome, out: &mut Text)
+// The second line, by what check says. It never refuses an accepted table (`services-say` in proofs/LineMeanings), so what is no yes is a no.
+pub(crate) fn put_error_free(outcome: Result<usize, Refusal>, out: &mut Text)
     requires { length out.old + 60 ≤ ROOM }
     ensures appended { out.new ≡ out.old ++ error_free_line (outcome_of outcome) }
     ensures within { length out.new ≤ length out.old + 60 }
 {
     match outcome {
-        Outcome::Accepted(0) => out.push_bytes(b"error-free yes\n"),
+        Ok(0) => out.push_bytes(b"error-free yes\n"),
         _ => out.push_bytes(b"error-free no\n"),
     }
 }
@@ -76,7 +85,7 @@ fn put_fields(sizes: Sizes, count: usize, answer: &[u8], out: &mut Text)
 pub(crate) fn put_service(
     service: Service,
     sizes: Sizes,
-    outcome: Outcome,
+    outcome: Result<usize, Refusal>,
     answer: &[u8],
     out: &mut Text,
 )
@@ -88,7 +97,7 @@ pub(crate) fn put_service(
     out.push(service.letter());
     out.push(b' ');
     match outcome {
-        Outcome::Refused(number, place) => put_refusal(number, place, out),
-        Outcome::Accepted(count) => put_fields(sizes, count, answer, out),
+        Ok(count) => put_fields(sizes, count, answer, out),
+        Err(refusal) => put_refusal(refusal, out),
     }
 }

@@ -8,7 +8,7 @@ ghost use Rattle.listing.specs.Listing.{listed, listing};
 use fields::column_count;
 use input::read_input;
 use lines::{put_refusal, put_sizes};
-use records::{Outcome, table_fault};
+use records::table_fault;
 use service::Service;
 use services::{put_check, put_least};
 use sizes::Sizes;
@@ -22,6 +22,9 @@ mod service;
 mod services;
 mod sizes;
 mod text;
+
+// One record more than a full table has, so that a longer input is refused.
+const INPUT: usize = 4128;
 
 // The five lines of an accepted table.
 fn put_lines(sizes: Sizes, table: &[u8], out: &mut Text)
@@ -42,8 +45,8 @@ fn fill_listing(table: &[u8], out: &mut Text)
 {
     let n = column_count(table);
     match table_fault(n, table) {
-        Outcome::Refused(number, place) => put_refusal(number, place, out),
-        Outcome::Accepted(m) => put_lines(Sizes { m, n }, table, out),
+        Ok(m) => put_lines(Sizes { m, n }, table, out),
+        Err(refusal) => put_refusal(refusal, out),
     }
 }
 
@@ -63,7 +66,7 @@ fn print_listing(rt: &(impl Print + Eprint), table: &[u8]) {
 
 // A table that could not be read whole is not answered.
 fn main(rt: HostRuntime) {
-    let mut buffer = [0; 4128];
+    let mut buffer = [0; INPUT];
     match read_input(&mut rt.reader(), &mut buffer) {
         Ok(count) => print_listing(&rt, &buffer[..count]),
         Err(_) => report(&rt, "listing: cannot read standard input"),

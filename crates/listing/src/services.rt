@@ -10,17 +10,18 @@ use crate::service::Service;
 use crate::sizes::Sizes;
 use crate::text::{ROOM, Text};
 use haplotypes::{check, least_corrections, least_fragment_removal, least_snp_removal};
-use records::Outcome;
+use records::Refusal;
 
 // Room for the answer of a full table.
 const ANSWER: usize = 640;
 
-// The work buffer.
+// The work buffer that S, F and C ask for.
 const WORK: usize = 32768;
 
 // Room for the corrected records of a full table.
 const TABLE: usize = 4096;
 
+// The second line.
 pub(crate) fn put_check(sizes: Sizes, table: &[u8], out: &mut Text)
     requires { length out.old + 60 ≤ ROOM }
     ensures appended { out.new ≡ out.old ++ check_line sizes.m sizes.n table.now }
@@ -32,7 +33,7 @@ pub(crate) fn put_check(sizes: Sizes, table: &[u8], out: &mut Text)
 }
 
 // S, F or C on a blank answer and its own buffers: what it says and leaves prints as its line.
-fn least(service: Service, sizes: Sizes, table: &[u8], answer: &mut [u8]) -> Outcome
+fn least(service: Service, sizes: Sizes, table: &[u8], answer: &mut [u8]) -> Result<usize, Refusal>
     requires { answer.old ≡ blank (answer_size sizes.m sizes.n) }
     ensures { service_line (letter_of service) sizes.m sizes.n (outcome_of result) answer.new ≡ least_line (letter_of service) sizes.m sizes.n table.now }
 {

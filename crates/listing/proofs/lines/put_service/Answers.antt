@@ -4,12 +4,12 @@ use mathlib.Core.List.{append_assoc}
 use mathlib.Core.Path.{ap}
 use Rattle.listing.proofs.lines.put_service.Goals as goal
 
-pub returns-in-Refused-clause-appended : goal.returns-in-Refused-clause-appended
+pub returns-in-Err-clause-appended : goal.returns-in-Err-clause-appended
 unfolding line joined led refusal fields service_line
-returns-in-Refused-clause-appended c =
-    rw (ap outcome_of c.in-Refused.is, c.put_refusal.ensures.appended, c.push-2.ensures, c.push.ensures, c.letter.ensures) (simp append_assoc)
+returns-in-Err-clause-appended c =
+    rw (ap outcome_of c.in-Err.is, c.put_refusal.ensures.appended, c.push-2.ensures, c.push.ensures, c.letter.ensures) (simp append_assoc)
 
-pub returns-in-Accepted-clause-appended : goal.returns-in-Accepted-clause-appended
+pub returns-in-Ok-clause-appended : goal.returns-in-Ok-clause-appended
 unfolding line joined led refusal fields service_line
-returns-in-Accepted-clause-appended c =
-    rw (ap outcome_of c.in-Accepted.is, c.put_fields.ensures.appended, c.push-2.ensures, c.push.ensures, c.letter.ensures) (simp append_assoc)
+returns-in-Ok-clause-appended c =
+    rw (ap outcome_of c.in-Ok.is, c.put_fields.ensures.appended, c.push-2.ensures, c.push.ensures, c.letter.ensures) (simp append_assoc)
