@@ -29,7 +29,7 @@ pub(crate) fn put_field(signs: &[u8], codes: &[u8], out: &mut Text)
     }
 }
 
-// A block's number, or - for a removed fragment.
+// A block's number, or - for 255, a removed fragment.
 fn put_block(block: u8, out: &mut Text)
     requires { length out.old + 20 ≤ ROOM }
     ensures appended { out.new ≡ out.old ++ block_word block }

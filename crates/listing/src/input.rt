@@ -12,6 +12,7 @@ pub(crate) fn read_input<R: Read>(reader: &mut R, buffer: &mut [u8]) -> io::Resu
     ensures ended { IfOk result (λ count. count < length buffer.new → IsAtEnd (R.remaining reader.new)) }
 {
     let mut count = 0;
+    // A while, since a read may bring any number of bytes.
     while count < buffer.len() {
         let more = reader.read(&mut buffer[count..])?;
         if more == 0 {

@@ -58,7 +58,7 @@ impl Text {
         self.len = end;
     }
 
-    // A number of 64 bits has at most 20 digits.
+    // A number of 64 bits has at most 20 digits. A cast, since u64 has no From<usize>.
     pub(crate) fn push_number(&mut self, x: usize)
         requires { length self.old + 20 ≤ ROOM }
         ensures appended { self.new ≡ self.old ++ decimal x }
