@@ -1,4 +1,4 @@
-pub mod AppendLaws
+pub mod FieldLaws
 pub mod NumberLaws
 pub mod LineLaws
 pub mod ListingLaws

@@ -1,1 +1,1 @@
-pub mod Appended
+pub mod Letters

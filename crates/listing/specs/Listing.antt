@@ -118,12 +118,6 @@ fragment_removal_line m n table = let left = fragment_removal_leaves n table (bl
 unfoldable pub correction_line : ℕ → ℕ → List ℕ → List ℕ
 correction_line m n table = let left = corrections_leaves n table (blank (answer_size m n)) (blank (32 * m)) (blank 32768) in service_line (code "C") m n left.outcome left.answer
 
--- the letters of the services that print an answer
-pub data Letter : ℕ → Type 0 where
-  is_s : Letter (code "S")
-  is_f : Letter (code "F")
-  is_c : Letter (code "C")
-
 -- S's, F's or C's line, by its letter
 unfoldable pub least_line : ℕ → ℕ → ℕ → List ℕ → List ℕ
 least_line letter m n table = if letter =? code "S" then snp_removal_line m n table else (if letter =? code "F" then fragment_removal_line m n table else correction_line m n table)

@@ -1,34 +1,24 @@
-// Standard input. What a read puts into a buffer has no contract, so this is tested and not proved: only that it ends, and stays inside the buffer, is proved.
-ghost use Rattle.std.specs.Prelude.{◌≤◌, length};
+// Standard input. A contract says of the bytes read that they are those of the reader, where these are known. Those of standard input are not, so that is tested.
+ghost use Rattle.std.specs.Prelude.{◌<◌, ◌≤◌, length, take, IfOk};
+ghost use Rattle.std.specs.Io.KnownBytes.{Consumes, IsAtEnd};
 
+use std::io;
 use std::io::Read;
 
-// How many bytes were read, and whether they are all: the input ended, or the buffer is full.
-#[derive(Clone, Copy)]
-pub(crate) struct Input {
-    pub whole: bool,
-    pub count: usize,
-}
-
-// Reads until the buffer is full or the input ends. A read that brings fewer bytes than asked is followed by another; one that fails ends it, and what was read is not whole.
-pub(crate) fn read_input<R: Read>(reader: &mut R, buffer: &mut [u8]) -> Input
-    ensures { result.count ≤ length buffer.new }
+// Reads until the buffer is full or the input ends, and returns how many bytes it read. A read that brings fewer than asked is followed by another.
+pub(crate) fn read_input<R: Read>(reader: &mut R, buffer: &mut [u8]) -> io::Result<usize>
+    ensures within { IfOk result (λ count. count ≤ length buffer.new) }
+    ensures bytes { IfOk result (λ count. Consumes (R.remaining reader.old) (R.remaining reader.new) (take count buffer.new)) }
+    ensures ended { IfOk result (λ count. count < length buffer.new → IsAtEnd (R.remaining reader.new)) }
 {
-    let mut done = 0;
-    while done < buffer.len() {
-        let Ok(more) = reader.read(&mut buffer[done..]) else {
-            return Input {
-                whole: false,
-                count: done,
-            };
-        };
+    let mut count = 0;
+    // A while, since a read may bring any number of bytes.
+    while count < buffer.len() {
+        let more = reader.read(&mut buffer[count..])?;
         if more == 0 {
-            break;
+            return Ok(count);
         }
-        done += more;
+        count += more;
     }
-    Input {
-        whole: true,
-        count: done,
-    }
+    Ok(count)
 }

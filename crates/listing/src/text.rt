@@ -1,36 +1,71 @@
-// Text appended to a buffer: each function writes at a place and returns the place after what it wrote.
-ghost use Rattle.std.specs.Prelude.{[], ◌∷◌, ◌+◌, ◌<◌, ◌≤◌, length};
-ghost use Rattle.listing.specs.Algorithm.Appended.{Appended};
+// A text that grows in a buffer of fixed size.
+ghost use Rattle.std.specs.Prelude.{◌≡◌, ℕ, ◌+◌, ◌<◌, ◌≤◌, List, [], ◌∷◌, ◌++◌, length, take};
 ghost use Rattle.listing.specs.Listing.{decimal};
 
-pub(crate) fn put_byte(b: u8, out: &mut [u8], at: usize) -> usize
-    requires { at < length out.old }
-    ensures { Appended (b ∷ []) at out.old result out.new }
-{
-    out[at] = b;
-    at + 1
+use std::marker::Model;
+
+// Room for every listing: that of a full table has fewer bytes.
+pub(crate) const ROOM: usize = 4096;
+
+// The bytes pushed so far. std's `Write` does not say that a write succeeds where there is room, so these methods are its own.
+#[derive(Drop)]
+pub(crate) struct Text {
+    bytes: [u8; ROOM],
+    len: usize,
 }
 
-pub(crate) fn put_text(text: &[u8], out: &mut [u8], at: usize) -> usize
-    requires { at + length text.now ≤ length out.old }
-    ensures { Appended text.now at out.old result out.new }
-{
-    let mut next = at;
-    let mut i = 0;
-    while i < text.len() {
-        next = put_byte(text[i], out, next);
-        i += 1;
+impl Model for Text {
+    ghost use Rattle.std.specs.Prelude.{ℕ, ◌≤◌, List, take};
+    ghost use Rattle.listing.specs.declared.text.TheConstants.{ROOM};
+
+    ghost Value = { List ℕ };
+
+    ghost view = { λ t. take t.len t.bytes };
+
+    ghost invariant = { λ t. t.len ≤ ROOM };
+}
+
+impl Text {
+    pub(crate) fn new() -> Self
+        ensures { result ≡ [] }
+    {
+        Text {
+            bytes: [0; ROOM],
+            len: 0,
+        }
     }
-    next
-}
 
-// A number of 64 bits has at most 20 digits.
-pub(crate) fn put_number(x: usize, out: &mut [u8], at: usize) -> usize
-    requires { at + 20 ≤ length out.old }
-    ensures appended { Appended (decimal x) at out.old result out.new }
-    ensures within { result ≤ at + 20 }
-{
-    let mut text = [0u8; 20];
-    let k = io::decimal(x as u64, &mut text);
-    put_text(&text[..k], out, at)
+    pub(crate) fn as_slice(&self) -> &[u8]
+        ensures { result.now ≡ self.now }
+    {
+        &self.bytes[..self.len]
+    }
+
+    pub(crate) fn push(&mut self, byte: u8)
+        requires { length self.old < ROOM }
+        ensures { self.new ≡ self.old ++ byte ∷ [] }
+    {
+        self.bytes[self.len] = byte;
+        self.len += 1;
+    }
+
+    pub(crate) fn push_bytes(&mut self, bytes: &[u8])
+        requires { length self.old + length bytes.now ≤ ROOM }
+        ensures { self.new ≡ self.old ++ bytes.now }
+    {
+        let end = self.len + bytes.len();
+        self.bytes[self.len..end].copy_from_slice(bytes);
+        self.len = end;
+    }
+
+    // A number of 64 bits has at most 20 digits. A cast, since u64 has no From<usize>.
+    pub(crate) fn push_number(&mut self, x: usize)
+        requires { length self.old + 20 ≤ ROOM }
+        ensures appended { self.new ≡ self.old ++ decimal x }
+        ensures within { length self.new ≤ length self.old + 20 }
+    {
+        let mut digits = [0u8; 20];
+        let count = io::decimal(x as u64, &mut digits);
+        self.push_bytes(&digits[..count]);
+    }
 }

@@ -1,23 +1,21 @@
 use Rattle.listing.proofs.ListingLaws.{few-columns, few-fragments, listing-is}
 use Rattle.listing.specs.Listing.{listed}
 use Rattle.records.specs.Outcome.{outcome_of}
-use native.Mathlib.Omega.{arith}
 use mathlib.Core.Path.{sym, ap, ◌∙◌}
-use borrow.Author.Rules.{rules}
 use Rattle.listing.proofs.fill_listing.Goals as goal
 
-pub put_lines-requires : goal.put_lines-requires
-put_lines-requires c =
-    let e = sym c.table_fault-verdict.ensures ∙ ap outcome_of c.in-Accepted.is in
-    record { m_bound = (few-fragments _ _ _ e, few-columns _ _ _ e); in_bounds = search rules }
+pub invariant_of-put_lines : goal.invariant_of-put_lines
+invariant_of-put_lines c =
+    let e = sym c.table_fault.ensures ∙ ap outcome_of c.in-Ok.is in
+    record { few_fragments = few-fragments _ _ _ e; few_columns = few-columns _ _ _ e }
 
-pub returns-in-Refused : goal.returns-in-Refused
+pub returns-in-Err : goal.returns-in-Err
 unfolding listed
-returns-in-Refused c =
-    let e = sym (ap outcome_of c.in-Refused.is) ∙ c.table_fault-verdict.ensures in
-    record { text = c.put_refusal.ensures.appended.bytes ∙ listing-is _ _ _ c.column_count-n.ensures e; within = omega arith }
+returns-in-Err c =
+    let e = sym (ap outcome_of c.in-Err.is) ∙ c.table_fault.ensures in
+    rw (c.put_refusal.ensures.appended, c.requires) (listing-is _ _ _ c.column_count-n.ensures e)
 
-pub returns-in-Accepted : goal.returns-in-Accepted
-returns-in-Accepted c =
-    let e = sym (ap outcome_of c.in-Accepted.is) ∙ c.table_fault-verdict.ensures in
-    record { text = c.put_lines.ensures.appended.bytes ∙ listing-is _ _ _ c.column_count-n.ensures e; within = omega arith }
+pub returns-in-Ok : goal.returns-in-Ok
+returns-in-Ok c =
+    let e = sym (ap outcome_of c.in-Ok.is) ∙ c.table_fault.ensures in
+    c.put_lines.ensures ∙ listing-is _ _ _ c.column_count-n.ensures e

@@ -1,18 +1,15 @@
-use Rattle.listing.proofs.AppendLaws.{◌⨾◌, as-text, words-none, words-some}
+use Rattle.listing.proofs.FieldLaws.{words-none, words-some}
 use Rattle.listing.proofs.NumberLaws.{block-some}
-use native.Mathlib.Omega.{arith}
-use Prim.Native.Nat.{ℕ}
-use mathlib.Core.List.{List, ◌++◌}
-use mathlib.Core.Path.{ap}
 use Rattle.below.specs.Text.{ascii}
+use mathlib.Core.List.{append_assoc}
 use Rattle.listing.proofs.answers.put_block_field.Goals as goal
 
-pub returns-then-count-eq0 : goal.returns-then-count-eq0
+pub returns-in-empty-clause-appended : goal.returns-in-empty-clause-appended
 unfolding ascii
-returns-then-count-eq0 c =
-    record { appended = as-text (ap (λ (t : List ℕ). ascii " " ++ t) (words-none "," _ _ c.if-count-eq0.true)) (c.put_byte-first.ensures ⨾ c.put_byte.ensures); within = omega arith }
+returns-in-empty-clause-appended c =
+    rw (words-none "," _ c.args.blocks.now c.in-empty.len_below, c.push-in-empty.ensures, c.push.ensures, append_assoc)
 
-pub returns : goal.returns
+pub returns-in-len1-up-clause-appended : goal.returns-in-len1-up-clause-appended
 unfolding ascii
-returns c =
-    record { appended = as-text (ap (λ (t : List ℕ). ascii " " ++ t) (words-some "," _ _ c.if-count-eq0.false (block-some _))) (c.put_byte-first.ensures ⨾ c.put_blocks.ensures.appended); within = omega arith }
+returns-in-len1-up-clause-appended c =
+    rw (words-some "," _ c.args.blocks.now c.in-len1-up.len_at_least block-some, c.put_blocks.ensures.appended, c.put_block.ensures.appended, c.push.ensures) (simp append_assoc)

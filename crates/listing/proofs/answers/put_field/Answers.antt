@@ -1,23 +1,20 @@
-use Rattle.listing.proofs.AppendLaws.{◌⨾◌, as-text, signs-none, signs-some}
-use Rattle.listing.specs.Listing.{sign_of}
-use Rattle.below.proofs.BelowLaws.{length-tab}
-use lib.ListN.{get_or}
-use native.Mathlib.Omega.{arith}
-use Prim.Native.Nat.{ℕ, ◌+◌}
-use mathlib.Core.List.{List, ◌++◌}
-use mathlib.Core.Path.{ap}
+use Rattle.std.proofs.lemmas.Bool.Decides.{nat_tests}
+use Rattle.listing.proofs.FieldLaws.{signs-none, signs-some}
 use Rattle.below.specs.Text.{ascii}
+use lib.ListN.{length}
+use native.Mathlib.Omega.{arith}
+use mathlib.Core.List.{append_assoc}
+use Prim.Native.Nat.{◌<◌, ◌≤◌}
 use Rattle.listing.proofs.answers.put_field.Goals as goal
 
-pub returns-then-count-eq0 : goal.returns-then-count-eq0
+pub returns-then-is_empty-clause-appended : goal.returns-then-is_empty-clause-appended
 unfolding ascii
-returns-then-count-eq0 c =
-    record { appended = as-text (ap (λ (t : List ℕ). ascii " " ++ t) (signs-none _ _ c.if-count-eq0.true)) (c.put_byte-next.ensures ⨾ c.put_byte.ensures); within = omega arith }
+returns-then-is_empty-clause-appended c =
+    let z : length c.args.codes.now < 1 = grind (arith, nat_tests, c.is_empty.ensures, c.if-is_empty.true) in
+    rw (signs-none _ c.args.codes.now z, c.push-then-is_empty.ensures, c.push.ensures, append_assoc)
 
-pub returns : goal.returns
+pub returns-else-is_empty-clause-appended : goal.returns-else-is_empty-clause-appended
 unfolding ascii
-returns c =
-    let a = c.args in
-    let f : ℕ → ℕ = λ i. sign_of a.signs.now (get_or a.bytes.now (a.from + i) 0) in
-    let e = length-tab a.count f in
-    record { appended = as-text (ap (λ (t : List ℕ). ascii " " ++ t) (signs-some a.count f c.if-count-eq0.false)) (c.put_byte-next.ensures ⨾ c.put_signs.ensures); within = omega arith }
+returns-else-is_empty-clause-appended c =
+    let z : 1 ≤ length c.args.codes.now = grind (arith, nat_tests, c.is_empty.ensures, c.if-is_empty.false) in
+    rw (signs-some _ c.args.codes.now z, c.put_signs.ensures, c.push.ensures, append_assoc)

@@ -1,9 +1,8 @@
 use Rattle.below.specs.Text.{ascii}
-use Rattle.listing.proofs.AppendLaws.{◌⨾◌}
-use native.Mathlib.Omega.{arith}
+use mathlib.Core.List.{append_assoc}
 use Rattle.listing.proofs.lines.put_numbers.Goals as goal
 
-pub returns : goal.returns
+pub returns-clause-appended : goal.returns-clause-appended
 unfolding ascii
-returns c =
-    record { appended = c.put_text-a.ensures ⨾ c.put_number-b.ensures.appended ⨾ c.put_text-c.ensures ⨾ c.put_number-d.ensures.appended ⨾ c.put_byte.ensures; within = omega (arith, c.put_text-a.ensures.place, c.requires.t_len_bound) }
+returns-clause-appended c =
+    rw (c.push.ensures, c.push_number-2.ensures.appended, c.push_bytes-2.ensures, c.push_number.ensures.appended, c.push_bytes.ensures) (simp append_assoc)

@@ -1,11 +1,9 @@
 use Rattle.below.specs.Text.{ascii}
-use Rattle.listing.specs.Listing.{decimal, line, joined, led, refusal}
-use Rattle.listing.proofs.LineLaws.{words-then}
-use Rattle.listing.proofs.AppendLaws.{as-text}
+use Rattle.listing.specs.Listing.{line, joined, led, refusal}
+use mathlib.Core.List.{append-nil, append_assoc}
 use Rattle.listing.proofs.lines.put_refusal.Goals as goal
 
-pub returns : goal.returns
+pub returns-clause-appended : goal.returns-clause-appended
 unfolding line joined led refusal ascii
-returns c =
-    let a = c.args in
-    record { appended = as-text (words-then (ascii "refused ") (decimal a.number) (ascii " at ") (decimal a.place) (ascii "\n")) c.put_numbers.ensures.appended; within = c.put_numbers.ensures.within }
+returns-clause-appended c =
+    rw (c.put_numbers.ensures.appended, c.from.ensures, c.number.ensures) (simp (append_assoc, append-nil))

@@ -1,18 +1,15 @@
-use Rattle.listing.proofs.AppendLaws.{◌⨾◌, as-text}
 use Rattle.listing.specs.Listing.{line, joined, led, refusal, fields, service_line}
-use Rattle.records.specs.Outcome.{Verdict, outcome_of}
-use native.Mathlib.Omega.{arith}
-use mathlib.Core.Path.{sym, ap}
+use Rattle.records.specs.Outcome.{outcome_of}
+use mathlib.Core.List.{append_assoc}
+use mathlib.Core.Path.{ap}
 use Rattle.listing.proofs.lines.put_service.Goals as goal
 
-pub returns-in-Refused : goal.returns-in-Refused
+pub returns-in-Err-clause-appended : goal.returns-in-Err-clause-appended
 unfolding line joined led refusal fields service_line
-returns-in-Refused c =
-    let a = c.args in
-    record { appended = as-text (ap (λ (v : Verdict). service_line a.letter a.m a.n v a.answer.now) (sym (ap outcome_of c.in-Refused.is))) (c.put_byte-a.ensures ⨾ c.put_byte-b.ensures ⨾ c.put_refusal.ensures.appended); within = omega arith }
+returns-in-Err-clause-appended c =
+    rw (ap outcome_of c.in-Err.is, c.put_refusal.ensures.appended, c.push-2.ensures, c.push.ensures, c.letter.ensures) (simp append_assoc)
 
-pub returns-in-Accepted : goal.returns-in-Accepted
+pub returns-in-Ok-clause-appended : goal.returns-in-Ok-clause-appended
 unfolding line joined led refusal fields service_line
-returns-in-Accepted c =
-    let a = c.args in
-    record { appended = as-text (ap (λ (v : Verdict). service_line a.letter a.m a.n v a.answer.now) (sym (ap outcome_of c.in-Accepted.is))) (c.put_byte-a.ensures ⨾ c.put_byte-b.ensures ⨾ c.put_fields.ensures.appended); within = omega arith }
+returns-in-Ok-clause-appended c =
+    rw (ap outcome_of c.in-Ok.is, c.put_fields.ensures.appended, c.push-2.ensures, c.push.ensures, c.letter.ensures) (simp append_assoc)

@@ -1,11 +1,8 @@
 use Rattle.below.specs.Text.{ascii}
-use Rattle.listing.specs.Listing.{decimal, line, joined, led, sizes_line}
-use Rattle.listing.proofs.LineLaws.{words-then}
-use Rattle.listing.proofs.AppendLaws.{as-text}
+use Rattle.listing.specs.Listing.{line, joined, led, sizes_line}
+use mathlib.Core.List.{append-nil, append_assoc}
 use Rattle.listing.proofs.lines.put_sizes.Goals as goal
 
-pub returns : goal.returns
+pub returns-clause-appended : goal.returns-clause-appended
 unfolding line joined led sizes_line ascii
-returns c =
-    let a = c.args in
-    record { appended = as-text (words-then (ascii "fragments ") (decimal a.m) (ascii " snps ") (decimal a.n) (ascii "\n")) c.put_numbers.ensures.appended; within = c.put_numbers.ensures.within }
+returns-clause-appended c = rw c.put_numbers.ensures.appended (simp (append_assoc, append-nil))

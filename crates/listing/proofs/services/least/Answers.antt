@@ -1,18 +1,22 @@
-use Rattle.listing.proofs.ListingLaws.{blank_part, third, snps-print, fragments-print, corrections-print}
+use Rattle.listing.proofs.ListingLaws.{take-blank, snps-print, fragments-print, calls-print}
+use Rattle.listing.specs.Listing.{blank}
 use Prim.Native.Nat.{◌*◌}
-use borrow.Author.Rules.{rules}
+use mathlib.Core.Path.{refl}
+use native.Mathlib.Omega.{arith}
 use Rattle.listing.proofs.services.least.Goals as goal
 
-pub returns-then-letter-eq83 : goal.returns-then-letter-eq83
-returns-then-letter-eq83 c =
-    snps-print _ _ _ c.requires.answer_value c.blank_work-work.ensures c.if-letter-eq83.true c.least_snp_removal.ensures.outcome c.least_snp_removal.ensures.answer
+pub returns-in-Snps : goal.returns-in-Snps
+unfolding blank
+returns-in-Snps c =
+    snps-print _ _ _ c.requires refl c.in-Snps.is c.least_snp_removal.ensures.outcome c.least_snp_removal.ensures.answer
 
-pub returns-then-letter-eq70 : goal.returns-then-letter-eq70
-returns-then-letter-eq70 c =
-    fragments-print _ _ _ c.requires.answer_value c.blank_work-work.ensures c.if-letter-eq70.true c.least_fragment_removal.ensures.outcome c.least_fragment_removal.ensures.answer
+pub returns-in-Fragments : goal.returns-in-Fragments
+unfolding blank
+returns-in-Fragments c =
+    fragments-print _ _ _ c.requires refl c.in-Fragments.is c.least_fragment_removal.ensures.outcome c.least_fragment_removal.ensures.answer
 
-pub returns : goal.returns
-returns c =
-    let p = c.requires in
-    let m = c.args.m in
-    corrections-print m _ _ p.answer_value c.blank_work-work.ensures (third p.letter c.if-letter-eq83.false c.if-letter-eq70.false) (blank_part (32 * m) 4096 (search rules) c.blank_table-corrected.ensures) c.least_corrections.ensures.outcome c.least_corrections.ensures.answer
+pub returns-in-Calls : goal.returns-in-Calls
+unfolding blank
+returns-in-Calls c =
+    let m = c.args.sizes.m in
+    calls-print m _ _ c.requires refl c.in-Calls.is (take-blank (32 * m) 4096 (omega arith)) c.least_corrections.ensures.outcome c.least_corrections.ensures.answer
