@@ -7,21 +7,22 @@ use Prim.Native.Nat.{ℕ, ◌+◌, ◌*◌, ◌-◌, ◌^◌, ◌≤◌, ◌<◌
 use native.Mathlib.Decide.{dec_le}
 use native.Mathlib.Omega.{arith}
 use lib.Dec.{T, leb}
-use lib.ListN.{length, get_or, take, drop, length-drop, get_or-append, get_or-eq_default}
-use lib.Seq.{get_or-take, get_or-drop, length-take-le, ext_get_or}
-use borrow.Rule.Slice.PartMut.{put_mid, same_len_mid, mid_len}
-use Rattle.below.specs.Below.{◌≤?◌, isnt, any_below, sum_below, tab}
+use lib.ListN.{length, take, drop, length-drop, get_or-eq_default}
+use lib.Seq.{get_or-take, get_or-drop, length-take-le}
+use Rattle.std.specs.Int.{w16, w32, to_le_bytes}
+use Rattle.below.specs.Below.{◌≤?◌, isnt, any_below, sum_below}
 use Rattle.fields.specs.Writing.{bytes_of, calls_start_of, calls_span_of, cell_bytes, codes_of, cut, laid_out, record_of, writable_row, writable, RecordWritten}
-use Rattle.below.proofs.BelowLaws.{both, left-of, right_of, T-isnt, isnt-T, is_true, is_false, same_test, le-≤?, isnt-<?, ≤?-le, none-at, =?-eq, eq-=?, length-tab}
-use Rattle.below.proofs.FillLaws.{filled_none, filled-part}
-use Rattle.below.proofs.RowLaws.{tab-ext}
-use Rattle.fields.proofs.ByteLaws.{four, cell_byte_of-at}
+use Rattle.below.proofs.BelowLaws.{both, left-of, right_of, T-isnt, isnt-T, is_true, is_false, same_test, le-≤?, isnt-<?, ≤?-le, none-at, =?-eq, eq-=?}
 use Rattle.writing.proofs.ScanLaws.{unknown}
-use Rattle.records.proofs.PackLaws.{length-laid_out, cut_in, cut_out}
+use Rattle.records.proofs.PackLaws.{cut_in, cut_out}
 
 -- ---- a row that is writable
 
 module _ (row : List ℕ) (w : T (writable_row (length row) (codes_of row))) where
+  pub writable-short : length row ≤ 128
+  unfolding writable_row
+  writable-short = ≤?-le _ _ (left-of _ _ (left-of _ _ w))
+
   pub writable-narrow : calls_span_of (length row) (codes_of row) ≤ 96
   unfolding writable_row
   writable-narrow = ≤?-le _ _ (right_of _ _ w)
@@ -57,47 +58,19 @@ cell_byte_of-of codes b a0 a1 a2 a3 e0 e1 e2 e3 = let z : codes (4 * b + 0) ≡ 
 abbrev pub cell_byte_of : (ℕ → ℕ) → ℕ → ℕ
 cell_byte_of codes b = sum_below 4 (λ q. 4 ^ q * codes (4 * b + q))
 
--- the 8 bytes before the cells
-abbrev pub header : ℕ → ℕ → ℕ → ℕ → List ℕ
-header t f s g = bytes_of 4 t ++ bytes_of 2 f ++ s ∷ g ∷ []
+-- the bytes of a number as the library has them
+pub four-bytes : (t : ℕ) → to_le_bytes w32 t ≡ bytes_of 4 t
+unfolding bytes_of
+four-bytes t = ap₂ ◌∷◌ refl (ap₂ ◌∷◌ (omega arith) (ap₂ ◌∷◌ (omega arith) (ap₂ ◌∷◌ (omega arith) refl)))
 
-module _ (t f s g : ℕ) where
-  pub tag-byte-at : (k : ℕ) → k < 4 → get_or (header t f s g) k 0 ≡ get_or (bytes_of 4 t) k 0
-  unfolding bytes_of
-  tag-byte-at = four (λ k. get_or (header t f s g) k 0 ≡ get_or (bytes_of 4 t) k 0) refl refl refl refl
+pub two-bytes : (f : ℕ) → to_le_bytes w16 f ≡ bytes_of 2 f
+unfolding bytes_of
+two-bytes f = ap₂ ◌∷◌ refl (ap₂ ◌∷◌ (omega arith) refl)
 
-  pub frame-byte-at : (k : ℕ) → 4 ≤ k → k < 8 → get_or (header t f s g) k 0 ≡ get_or (bytes_of 2 f ++ s ∷ g ∷ []) (k - 4) 0
-  unfolding bytes_of
-  frame-byte-at k l h =
-      ap (λ (j : ℕ). get_or (header t f s g) j 0) (let e : k ≡ 4 + (k - 4) = omega arith in e)
-      ∙ four (λ j. get_or (header t f s g) (4 + j) 0 ≡ get_or (bytes_of 2 f ++ s ∷ g ∷ []) j 0) refl refl refl refl (k - 4) (omega arith)
-
-  module _ (codes : ℕ → ℕ) where
-    laid-parts : laid_out t f s g codes ≡ header t f s g ++ cell_bytes codes
-    unfolding laid_out bytes_of
-    laid-parts = refl
-
-    header-long : length (header t f s g) ≡ 8
-    unfolding bytes_of
-    header-long = refl
-
-    header_at : (k : ℕ) → k < 8 → get_or (laid_out t f s g codes) k 0 ≡ get_or (header t f s g) k 0
-    header_at k h = let e = header-long in ap (λ (l : List ℕ). get_or l k 0) laid-parts ∙ get_or-append (header t f s g) _ 0 k (omega arith)
-
-    cells_at : (b : ℕ) → b < 24 → get_or (laid_out t f s g codes) (8 + b) 0 ≡ cell_byte_of codes b
-    unfolding laid_out bytes_of
-    cells_at b h = sym (get_or-drop 8 (laid_out t f s g codes) b 0) ∙ cell_byte_of-at codes b h
-
-    -- a record whose header and cells are written, each in its place
-    pub laid : (old first rest : List ℕ) → length old ≡ 32 → first ≡ tab 8 (λ k. get_or (header t f s g) k 0) → rest ≡ cell_bytes codes → put_mid 8 24 (put_mid 0 8 old first) rest ≡ laid_out t f s g codes
-    unfolding cell_bytes
-    laid old first rest long e d =
-        let at : ℕ → ℕ = λ j. get_or (laid_out t f s g codes) j 0 in
-        let few : length first ≡ 8 = ap length e ∙ length-tab 8 _ in
-        let many : length rest ≡ 24 = ap length d ∙ length-tab 24 _ in
-        let one = filled-part 32 at 0 8 old first (filled_none 32 at old long) (omega arith) (same_len_mid 0 8 old first (few ∙ sym (mid_len 0 8 old (omega arith)))) (e ∙ tab-ext 8 _ _ (λ k h. sym (let z : 0 + k ≡ k = omega arith in ap at z ∙ header_at k h))) in
-        let all = filled-part 32 at 8 24 _ rest one (omega arith) (same_len_mid 8 24 (put_mid 0 8 old first) rest (many ∙ sym (mid_len 8 32 (put_mid 0 8 old first) (let s = one.sized in omega arith)))) (d ∙ tab-ext 24 _ _ (λ b h. sym (cells_at b h))) in
-        ext_get_or 0 _ (laid_out t f s g codes) (all.sized ∙ sym (length-laid_out t f s g codes)) (λ j h. all.done j (let s = all.sized in omega arith))
+-- a record from the 8 bytes before its cells, and those of the cells
+pub laid : (t f s g : ℕ) (codes : ℕ → ℕ) (first rest : List ℕ) → first ≡ bytes_of 4 t ++ bytes_of 2 f ++ s ∷ g ∷ [] → rest ≡ cell_bytes codes → first ++ rest ≡ laid_out t f s g codes
+unfolding laid_out bytes_of
+laid t f s g codes first rest e d = rw (e, d) refl
 
 -- the codes of a span, as a part of the row
 pub cut-part : (row : List ℕ) (f s : ℕ) → f + s ≤ length row → cut f s (codes_of row) ≡ codes_of (take (f + s - f) (drop f row))

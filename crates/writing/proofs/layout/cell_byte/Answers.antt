@@ -8,7 +8,7 @@ pub returns : goal.returns
 returns c =
     let a = c.args in
     cell_byte_of-of (codes_of a.calls.now) a.b _ _ _ _
-    c.code-code0.ensures.0
-    c.code-code1.ensures.0
-    c.code-code2.ensures.0
-    c.code-code3.ensures.0
+    c.byte-first.ensures
+    c.byte-second.ensures
+    c.byte-third.ensures
+    c.byte-last.ensures

@@ -1,6 +1,5 @@
 -- `layout::fill_cells` meets its contract. The loop's invariant: the first b bytes are those of the cells.
 -- Assumes nothing.
-use Prim.Native.Nat.{◌-◌}
 use Rattle.below.proofs.FillLaws.{Filled}
 use Rattle.fields.specs.Writing.{codes_of}
 use Rattle.writing.proofs.LayoutLaws.{cell_byte_of}
@@ -8,6 +7,3 @@ use Rattle.writing.proofs.layout.fill_cells.Given as goal
 
 abbrev pub invariant-loop-b : goal.invariant-loop-b
 invariant-loop-b l = Filled 24 (cell_byte_of (codes_of l.calls)) l.b l.cells
-
-abbrev pub decreases-loop-b : goal.decreases-loop-b
-decreases-loop-b l = 24 - l.b

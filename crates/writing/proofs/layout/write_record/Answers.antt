@@ -1,6 +1,7 @@
 -- `layout::write_record` meets its contract.
 -- Assumes nothing.
 use mathlib.Core.Path.{◌≡◌, ap₂}
+use mathlib.Core.Logic.{inl, inr}
 use Prim.Native.Nat.{◌-◌}
 use native.Mathlib.Omega.{arith}
 use lib.ListN.{length}
@@ -11,15 +12,13 @@ use Rattle.below.proofs.BelowLaws.{passes, fails}
 use Rattle.writing.proofs.layout.write_record.Goals as goal
 use Rattle.writing.proofs.layout.write_record.Goals.{After-calls_end}
 
-pub returns-then-record-ne32 : goal.returns-then-record-ne32
-returns-then-record-ne32 c =
+pub returns-then-record-ne-RECORD_BYTES : goal.returns-then-record-ne-RECORD_BYTES
+returns-then-record-ne-RECORD_BYTES c =
     let a = c.args in
-    not-long a.tag a.grade a.row.now a.«record».now c.if-record-ne32.true
-
-pub returns-then-grade-gt15 : goal.returns-then-grade-gt15
-returns-then-grade-gt15 c =
-    let a = c.args in
-    not-graded a.tag a.grade a.row.now a.«record».now c.if-grade-gt15.true
+    elim c.then-record-ne-RECORD_BYTES.either [
+      | inl n ↦ not-long a.tag a.grade a.row.now a.«record».now n
+      | inr g ↦ not-graded a.tag a.grade a.row.now a.«record».now g.1
+    ]
 
 -- the span, from the start and the end that are read
 span-is : (c : After-calls_end)
@@ -51,15 +50,15 @@ fill_record-requires c =
     let d = span-is (goal.at.fill_record-requires c).After-calls_end in
     let m = writable-narrow row w in
     let f = span_fits (length row) (codes_of row) _ _ c.calls_start-start.ensures d in
-    record { t = w; span_in_bounds = (omega arith, omega arith, c.if-record-ne32.false) }
+    record { t = w; span_in_bounds = (omega arith, omega arith, c.if-record-ne-RECORD_BYTES.false) }
 
 pub returns : goal.returns
 returns c =
     let a = c.args in
     let w = passes c.is_writable.ensures c.if-not-is_writable.false in
     written a.tag a.grade a.row.now a.«record».now _ _ _
-    c.if-record-ne32.false
-    c.if-grade-gt15.false
+    c.if-record-ne-RECORD_BYTES.false
+    c.if-grade-gt-MAX_GRADE.false
     w
     c.calls_start-start.ensures
     (span-is (goal.at.returns c).After-calls_end)

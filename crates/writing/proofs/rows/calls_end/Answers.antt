@@ -1,31 +1,28 @@
--- `rows::calls_end` meets its contract. The loop's invariant: the calls of the row end where those of its first `end` columns end.
-use mathlib.Core.Path.{◌≡◌, refl, sym, ap, ◌∙◌}
-use Prim.Native.Nat.{ℕ}
+-- `rows::calls_end` meets its contract. The loop's invariant: the calls of the row end where those of its first c columns end.
+use mathlib.Core.Path.{◌≡◌, sym, ap, ◌∙◌}
+use Prim.Native.Nat.{ℕ, ◌+◌, ◌-◌}
 use native.Mathlib.Omega.{arith}
-use borrow.Author.Rules.{rules}
 use Rattle.fields.specs.Writing.{calls_end_of, codes_of}
 use Rattle.writing.proofs.ScanLaws.{end-hit, end-miss, end_none}
 use Rattle.below.proofs.BelowLaws.{passes, fails}
 use Rattle.writing.proofs.rows.calls_end.Goals as goal
 
-pub loop-end-init : goal.loop-end-init
-loop-end-init c = (search rules, refl)
-
-pub returns-then-is_call_at : goal.returns-then-is_call_at
-returns-then-is_call_at c =
+pub returns-then-is_call : goal.returns-then-is_call
+returns-then-is_call c =
     let row = c.args.row.now in
-    let l = c.loop-end in
-    sym (l.invariant.1 ∙ end-hit (codes_of row) l.end (omega arith) (passes c.is_call_at.ensures c.if-is_call_at.true))
+    let l = c.loop-c in
+    let e : l.c - 1 + 1 ≡ l.c = omega arith in
+    e ∙ sym (l.invariant ∙ end-hit (codes_of row) l.c (omega arith) (passes c.is_call.ensures c.if-is_call.true))
 
-pub loop-end-preserved : goal.loop-end-preserved
-loop-end-preserved c =
+pub loop-c-preserved : goal.loop-c-preserved
+loop-c-preserved c =
     let row = c.args.row.now in
-    let l = c.loop-end in
-    (search rules, l.invariant.1 ∙ end-miss (codes_of row) l.end (omega arith) (fails c.is_call_at.ensures c.if-is_call_at.false))
+    let l = c.loop-c in
+    l.invariant ∙ end-miss (codes_of row) l.c (omega arith) (fails c.is_call.ensures c.if-is_call.false)
 
 pub returns : goal.returns
 returns c =
     let row = c.args.row.now in
-    let l = c.loop-end in
-    let e : l.end ≡ 0 = omega arith in
-    sym (l.invariant.1 ∙ ap (λ (n : ℕ). calls_end_of n (codes_of row)) e ∙ end_none (codes_of row))
+    let l = c.loop-c in
+    let e : l.c ≡ 0 = omega arith in
+    sym (l.invariant ∙ ap (λ (n : ℕ). calls_end_of n (codes_of row)) e ∙ end_none (codes_of row))

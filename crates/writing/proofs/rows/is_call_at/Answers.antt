@@ -1,8 +1,0 @@
--- `rows::is_call_at` meets its contract.
--- Assumes nothing.
-use mathlib.Core.Path.{ap, ◌∙◌}
-use Rattle.fields.specs.Record.{is_call_code}
-use Rattle.writing.proofs.rows.is_call_at.Goals as goal
-
-pub returns : goal.returns
-returns c = c.is_call.ensures ∙ ap is_call_code c.byte.ensures
