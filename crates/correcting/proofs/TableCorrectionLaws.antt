@@ -35,10 +35,12 @@ use Rattle.conflicts.proofs.CorrectedTableLaws.{rewritten-same, rewritten-start,
 use Rattle.conflicts.proofs.CorrectionsMinimality.{changed-number, corrections-accepted}
 use Rattle.conflicts.proofs.DeepLaws.{deep-refused, deep-kept}
 use Rattle.matrix.specs.Algorithm.Cells.{table_cells, table_weights}
+use Rattle.places.specs.declared.lines.Line.{Line}
 use Rattle.masks.specs.Algorithm.Masks.{Masks, mask_words, Lettered, LetteredTable}
 use Rattle.matrix.proofs.TableLaws.{cells-coverage, weighed-cost, weighed-sides, weighed-cell}
 use Rattle.slots.specs.Algorithm.Columns.{first_deep_of}
 use Rattle.rewriting.specs.Algorithm.Letters.{OnSides}
+use Rattle.slots.specs.declared.spans.Span.{Span}
 use Rattle.slots.specs.Algorithm.Spans.{Spanned, deep_by}
 use Rattle.slots.proofs.DepthLaws.{deep_is, first-deep, first-none}
 use Rattle.slots.proofs.GrantLaws.{first-same}
@@ -58,7 +60,7 @@ settled-sides m n cells weights least =
     record { size = ap length least ∙ least-length 2 g (lit≤ tt); on = λ i h. rw least (least_on 2 g (lit≤ tt) i h) }
 
 -- the masks that were filled are those of the table
-pub filled-masks : (n : ℕ) (table : List ℕ) {m : ℕ} {words : List ℕ} → m ≤ 128 → n ≤ 128 → m ≡ fragments table → words ≡ mask_words (grid_of n table) → Masks (grid_of n table) words
+pub filled-masks : (n : ℕ) (table : List ℕ) {m : ℕ} {words : List Line} → m ≤ 128 → n ≤ 128 → m ≡ fragments table → words ≡ mask_words (grid_of n table) → Masks (grid_of n table) words
 unfolding grid_of
 filled-masks n table few narrow e are = record { few = (let h = few in omega arith); narrow = narrow; are = are }
 
@@ -107,19 +109,19 @@ module _ {n m : ℕ} {table cells : List ℕ} (sized : SizesKept n m table) (kep
   abbrev g : Grid
   g = matrix_grid m n cells
 
-  module _ {starts ends : List ℕ} (spanned : Spanned (matrix_grid m n cells) starts ends) where
+  module _ {spans : List Span} (spanned : Spanned (matrix_grid m n cells) spans) where
     -- rule 12's column, by where the fragments start and end
-    pub table-deep : deep_by m n starts ends ≡ first_deep_of (grid_of n table)
+    pub table-deep : deep_by m n spans ≡ first_deep_of (grid_of n table)
     unfolding first_deep_of matrix_grid grid_of
     table-deep =
-        deep_is g starts ends spanned
+        deep_is g spans spanned
         ∙ ap first_deep_of (grid-is sized same)
         ∙ first-same n _ _ (λ c h. ap (λ (x : ℕ). 8 <? x) (cells-coverage n table (sized-n sized) (few sized same) c))
 
     -- no column is too deep
-    pub table-shallow : n ≤ deep_by m n starts ends → NoneDeep (matrix_grid m n cells)
+    pub table-shallow : n ≤ deep_by m n spans → NoneDeep (matrix_grid m n cells)
     unfolding matrix_grid
-    table-shallow past = first-none g (subst (λ (x : ℕ). n ≤ x) (deep_is g starts ends spanned) past)
+    table-shallow past = first-none g (subst (λ (x : ℕ). n ≤ x) (deep_is g spans spanned) past)
 
   -- the matrix with the weights of the table's grades
   abbrev w : Grid

@@ -26,7 +26,7 @@ use phasing::fill_answer;
 use ranks::table;
 use records::{Fault, Refusal};
 use rewriting::{correct_cells, fill_records};
-use slots::{fill_spans, first_deep};
+use slots::{Span, fill_spans, first_deep};
 use stages::correction_fault;
 
 // Settles the sides and the cells after correction, by the weights of the table's grades, and returns the cost.
@@ -35,18 +35,17 @@ fn settle(
     m: usize,
     table: &[u8],
     cells: &[u8],
-    starts: &[usize],
-    ends: &[usize],
+    spans: &[Span; 128],
     sides: &mut [u8],
     fixed: &mut [u8],
 ) -> usize
-    requires matrix { Matrix m n cells.now × Spanned (matrix_grid m n cells.now) starts.now ends.now × NoneDeep (matrix_grid m n cells.now) }
+    requires matrix { Matrix m n cells.now × Spanned (matrix_grid m n cells.now) spans.now × NoneDeep (matrix_grid m n cells.now) }
     requires sides_len { (length sides.old ≡ m) × (length fixed.old ≡ 16384) }
     ensures { Settled m n cells.now (table_weights table.now) sides.new fixed.new result }
 {
     let mut weights = [0u8; 128];
     fill_weights(table, &mut weights);
-    let total = least_cost_sides(m, n, cells, &weights, starts, ends, sides);
+    let total = least_cost_sides(m, n, cells, &weights, spans, sides);
     correct_cells(m, n, cells, &weights, sides, fixed);
     total
 }
@@ -69,14 +68,13 @@ fn correct_table(
     m: usize,
     table: &[u8],
     cells: &[u8],
-    starts: &[usize],
-    ends: &[usize],
+    spans: &[Span; 128],
     answer: &mut [u8],
     corrected: &mut [u8],
 ) -> usize
     requires sizes_kept { SizesKept n m table.now × RecordsKept n table.now }
     requires cells_value { cells.now ≡ table_cells n table.now }
-    requires spanned { Spanned (matrix_grid m n cells.now) starts.now ends.now × NoneDeep (matrix_grid m n cells.now) }
+    requires spanned { Spanned (matrix_grid m n cells.now) spans.now × NoneDeep (matrix_grid m n cells.now) }
     requires answer_len { (length answer.old ≡ answer_size m n) × (length corrected.old ≡ 32 * m) }
     ensures total { result ≡ changed_total (grid_of n table.now) (grid_of n (corrected_table n table.now)) }
     ensures answer { answer.new ≡ correction_answer (grid_of n table.now) }
@@ -85,7 +83,7 @@ fn correct_table(
     let mut frags = all_kept();
     let sides = &mut frags[0..m];
     let mut fixed = blank_cells();
-    let total = settle(n, m, table, cells, starts, ends, sides, &mut fixed);
+    let total = settle(n, m, table, cells, spans, sides, &mut fixed);
     fill_records(table, &fixed, corrected);
     let cols = all_kept();
     answer_sides(n, m, corrected, &cols[0..n], sides, answer);
@@ -109,14 +107,12 @@ fn correct_kept(
 {
     let mut cells = blank_cells();
     fill_matrix(n, table, &mut cells);
-    let mut starts = [0usize; 128];
-    let mut ends = [0usize; 128];
-    fill_spans(m, n, &cells, &mut starts, &mut ends);
-    let deep = first_deep(m, n, &starts, &ends);
-    if deep < n {
-        return Err(Fault::TooDeep.at(deep));
+    let mut spans = [Span { start: 0, end: 0 }; 128];
+    fill_spans(m, n, &cells, &mut spans);
+    if let Some(c) = first_deep(m, n, &spans) {
+        return Err(Fault::TooDeep.at(c));
     }
-    let total = correct_table(n, m, table, &cells, &starts, &ends, answer, corrected);
+    let total = correct_table(n, m, table, &cells, &spans, answer, corrected);
     table::clear(work);
     Ok(total)
 }

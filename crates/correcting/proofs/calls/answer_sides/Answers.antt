@@ -3,13 +3,12 @@
 use mathlib.Core.Path.{refl}
 use Rattle.conflicts.specs.Grid.{grid_of}
 use Rattle.correcting.proofs.TableCorrectionLaws.{filled-masks}
-use borrow.Author.Rules.{rules}
 use Rattle.correcting.proofs.calls.answer_sides.Goals as goal
 
 pub fill_answer-requires : goal.fill_answer-requires
 fill_answer-requires c =
     let p = c.requires in
-    (record { few = p.0; narrow = p.1; long = search rules; columns = p.2; fragments = p.3 }, p.4)
+    (record { few = p.0; narrow = p.1; columns = p.2; fragments = p.3 }, p.4)
 
 pub returns : goal.returns
 unfolding grid_of

@@ -25,7 +25,7 @@ pub correct_cells-requires : goal.correct_cells-requires
 correct_cells-requires c =
     let a = c.args in
     let least = c.least_cost_sides-total.ensures.0 in
-    (c.requires.matrix.0, (weighed _ c.fill_weights.ensures).size, settled-sides a.m a.n a.cells.now _ least, c.requires.sides_len.1)
+    (c.requires.matrix.0, settled-sides a.m a.n a.cells.now _ least, c.requires.sides_len.1)
 
 pub returns : goal.returns
 returns c =
