@@ -12,7 +12,7 @@ pub fn clear(row: &mut [u8])
     row.fill(0);
 }
 
-// Writes the cells of whole bytes, four to a byte, from cell 0 on: as many as have their place in the row.
+// Writes the cells of whole bytes, four to a byte, from cell 0 on: as many as have their place in the row. By index: a byte stands for four cells of another slice.
 fn write_bytes(part: &[u8], row: &mut [u8])
     requires { length row.old ≤ 96 }
     ensures { (c : ℕ) → c < 4 * (length row.old / 4) → get_or row.new c 0 ≡ cell_of part.now c }

@@ -19,7 +19,7 @@ pub fn record_at(table: &[u8], i: usize) -> &[u8]
     }
 }
 
-// The position of the first whole record with the tag, or the number of whole records where none has it.
+// The position of the first whole record with the tag, or the number of whole records where none has it: a number, as `position` defines it, and no Option.
 pub fn position_of(sought: u32, table: &[u8]) -> usize
     ensures { result ≡ position sought table.now }
 {

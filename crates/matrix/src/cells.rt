@@ -5,7 +5,7 @@ ghost use Rattle.matrix.specs.Algorithm.Cells.{table_cells};
 
 use fields::{fill_row, is_call, record_at};
 
-// Writes the cells of a table into a matrix of 128 cells to a fragment.
+// Writes the cells of a table into a matrix of 128 cells to a fragment. By index: after a walk over chunks a proof knows none of the cells written.
 pub fn fill_matrix(n: usize, table: &[u8], cells: &mut [u8])
     requires { length cells.old ≡ 16384 }
     ensures { cells.new ≡ table_cells n table.now }

@@ -16,7 +16,7 @@ pub fn fill_weights(table: &[u8], weights: &mut [u8])
     requires { length weights.old ≡ 128 }
     ensures { weights.new ≡ table_weights table.now }
 {
-    for i in 0..128 {
-        weights[i] = weight_at(table, i);
+    for (i, entry) in weights.iter_mut().enumerate() {
+        *entry = weight_at(table, i);
     }
 }

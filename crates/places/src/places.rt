@@ -99,7 +99,7 @@ impl Places {
         (self.low | self.high) != 0
     }
 
-    // Its lowest place, and 128 where it has none.
+    // Its lowest place, and 128 where it has none, as `first_below` says it.
     pub fn lowest(self) -> u32
         ensures { result ≡ first_below 128 (has_place self) }
     {
@@ -110,7 +110,7 @@ impl Places {
         }
     }
 
-    // One past its highest place, and 0 where it has none.
+    // One past its highest place, and 0 where it has none, as `end_below` says it.
     pub fn end(self) -> u32
         ensures { result ≡ end_below 128 (has_place self) }
     {
