@@ -4,7 +4,6 @@ use Prim.Native.Nat.{ℕ}
 use lib.ListN.{length, length-replicate}
 use mathlib.Core.Path.{ap, ◌∙◌}
 use native.Mathlib.Omega.{arith}
-use borrow.Author.Rules.{rules}
 use Rattle.records.specs.Algorithm.Kept.{GaplessKept}
 use Rattle.records.proofs.AcceptedLaws.{gapless-records, sized-n, sized-m}
 use Rattle.conflicts.specs.Choice.{zeros}

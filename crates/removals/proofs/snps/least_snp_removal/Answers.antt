@@ -1,6 +1,8 @@
 -- `snps::least_snp_removal` meets its contract.
 -- Assumes nothing.
-use mathlib.Core.Path.{sym}
+use mathlib.Core.Path.{◌≡◌, sym}
+use lib.ListN.{length, replicate}
+use borrow.Author.Rules.{rules}
 use Rattle.records.proofs.OutcomeLaws.{passed_on}
 use Rattle.stages.proofs.StageLaws.{removal-sized, removal-answer, gapless-accepted}
 use Rattle.removals.proofs.RemovalLaws.{removal-refuses, removal-accepts, clauses-outcome-work-answer-meaning}
@@ -23,4 +25,5 @@ remove_snps-count-requires c = removal-answer _ _ _ _ _ (sym c.in_ok-m.ensures)
 pub returns : goal.returns
 returns c =
     let removed = c.remove_snps-count.ensures in
-    clauses-outcome-work-answer-meaning (snp-leaves _ _ _ _ (removal-accepts _ _ _ _ _ _ _ (sym c.in_ok-m.ensures) removed.count c.fill.ensures removed.answer))
+    let zero : c.fill.new.self ≡ replicate (length c.args.work.now) 0 = search rules in
+    clauses-outcome-work-answer-meaning (snp-leaves _ _ _ _ (removal-accepts _ _ _ _ _ _ _ (sym c.in_ok-m.ensures) removed.count zero removed.answer))
