@@ -3,10 +3,8 @@
 
 mod cells;
 mod room;
-mod rows;
 mod weights;
 
 pub use cells::{call_at, fill_matrix};
 pub use room::{all_kept, blank_cells};
-pub use rows::copy;
 pub use weights::fill_weights;

@@ -1,7 +1,6 @@
 -- Tables of weights in three parallel lists, and loops that go through a table in place.
 -- Assumes nothing.
-use Rattle.std.specs.Prelude.{◌≡◌, List, ℕ, ◌+◌, ◌*◌, ◌^◌, ◌≤◌, ◌<◌, length, get_or, set, replicate}
-use Rattle.ranks.specs.declared.rank.Rank.{Rank}
+use Rattle.std.specs.Prelude.{◌≡◌, List, ℕ, ◌+◌, ◌*◌, ◌^◌, ◌≤◌, ◌<◌, length, get_or}
 use Rattle.ranks.specs.Algorithm.Weight.{top}
 use Rattle.below.specs.Below.{tab}
 
@@ -26,12 +25,6 @@ pub record Inside (counts highs lows : List ℕ) (j : ℕ) : Type 0 where
   pub in_highs : j < length highs
   pub in_lows : j < length lows
 
--- the table after a weight is put at place j
-pub record Stored (counts highs lows counts' highs' lows' : List ℕ) (j : ℕ) (r : Rank) : Type 0 where
-  pub counts_are : counts' ≡ set counts j r.count
-  pub highs_are : highs' ≡ set highs j r.high
-  pub lows_are : lows' ≡ set lows j r.low
-
 -- one place of a table has the value v, and the others are as they were
 pub record Put (old new : ℕ → ℕ) (j v : ℕ) : Type 0 where
   pub here : new j ≡ v
@@ -41,7 +34,3 @@ pub record Put (old new : ℕ → ℕ) (j v : ℕ) : Type 0 where
 pub record Sweep (f old now : ℕ → ℕ) (a j : ℕ) : Type 0 where
   pub done : (i : ℕ) → a ≤ i → i < j → now i ≡ f i
   pub rest : (i : ℕ) → (a ≤ i → i < j → ⊥) → now i ≡ old i
-
--- a buffer is all zero now
-pub record Cleared (old new : List ℕ) : Type 0 where
-  pub zeros : new ≡ replicate (length old) 0
