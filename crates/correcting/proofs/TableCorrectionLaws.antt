@@ -12,15 +12,16 @@ use Rattle.below.specs.Below.{nth, concat, ◌<?◌}
 use Rattle.fields.specs.Record.{start_of, span_of, code_at}
 use Rattle.fields.specs.Table.{fragments, record_bytes_at}
 use Rattle.records.specs.Outcome.{Verdict, accepted, refused}
-use Rattle.records.specs.Rules.{decide}
+use Rattle.records.specs.Rules.{decide, table_rules}
 use Rattle.below.proofs.BelowLaws.{T-isnt, lt-<?, le-isnt}
 use Rattle.below.proofs.RowLaws.{tab-ext}
-use Rattle.records.proofs.RuleLaws.{stage-last, stages-kept, stages-refused}
+use Rattle.records.proofs.RuleLaws.{decide-accepted, stage-last, stages-kept, stages-refused}
 use Rattle.fields.proofs.ByteLaws.{cell-past}
 use Rattle.records.proofs.PackLaws.{Sound, sound-narrow, sound-fits, sound-after}
 use Rattle.records.proofs.SoundLaws.{sound-row-small}
 use Rattle.records.proofs.TableLaws.{length-record_bytes_at, fragments-of}
 use Rattle.records.proofs.AcceptedLaws.{whole-records, accepted-sound, sized-count, sized-n, sized-m}
+use Rattle.stages.proofs.StageLaws.{correction-sized, correction-kept}
 use Rattle.conflicts.specs.Choice.{marked, keep_all}
 use Rattle.conflicts.specs.Grid.{Grid, grid_of, with_cells}
 use Rattle.matrix.specs.Algorithm.Matrix.{matrix_grid, weighted_grid}
@@ -105,24 +106,24 @@ corrected-letters {n} {table} kept = record { each = λ i h. go i (subst (λ (k 
 
 -- ---- the matrix and the bytes
 
-module _ {n m : ℕ} {table cells : List ℕ} (sized : SizesKept n m table) (kept : RecordsKept n table) (same : cells ≡ table_cells n table) where
+module _ {n m : ℕ} {table cells : List ℕ} (sized : SizesKept n m table) (same : cells ≡ table_cells n table) {spans : List Span} (spanned : Spanned (matrix_grid m n cells) spans) where
   abbrev g : Grid
   g = matrix_grid m n cells
 
-  module _ {spans : List Span} (spanned : Spanned (matrix_grid m n cells) spans) where
-    -- rule 12's column, by where the fragments start and end
-    pub table-deep : deep_by m n spans ≡ first_deep_of (grid_of n table)
-    unfolding first_deep_of matrix_grid grid_of
-    table-deep =
-        deep_is g spans spanned
-        ∙ ap first_deep_of (grid-is sized same)
-        ∙ first-same n _ _ (λ c h. ap (λ (x : ℕ). 8 <? x) (cells-coverage n table (sized-n sized) (few sized same) c))
+  -- rule 12's column, by where the fragments start and end
+  pub table-deep : deep_by m n spans ≡ first_deep_of (grid_of n table)
+  unfolding first_deep_of matrix_grid grid_of
+  table-deep =
+      deep_is g spans spanned
+      ∙ ap first_deep_of (grid-is sized same)
+      ∙ first-same n _ _ (λ c h. ap (λ (x : ℕ). 8 <? x) (cells-coverage n table (sized-n sized) (few sized same) c))
 
-    -- no column is too deep
-    pub table-shallow : n ≤ deep_by m n spans → NoneDeep (matrix_grid m n cells)
-    unfolding matrix_grid
-    table-shallow past = first-none g (subst (λ (x : ℕ). n ≤ x) (deep_is g spans spanned) past)
+  -- no column is too deep
+  pub table-shallow : deep_by m n spans ≡ n → NoneDeep (matrix_grid m n cells)
+  unfolding matrix_grid
+  table-shallow past = let e = deep_is g spans spanned in first-none g (omega arith)
 
+module _ {n m : ℕ} {table cells : List ℕ} (sized : SizesKept n m table) (kept : RecordsKept n table) (same : cells ≡ table_cells n table) where
   -- the matrix with the weights of the table's grades
   abbrev w : Grid
   w = weighted_grid m n cells (table_weights table)
@@ -161,14 +162,14 @@ module _ {n m : ℕ} {table cells : List ℕ} (sized : SizesKept n m table) (kep
     whole = grid-corrected n table (whole-records n table _ _ sized.kept)
 
     -- they are lawful in C's table
-    pub sides-lawful : (cols : List ℕ) → LawfulSides 2 (grid_of n (corrected_table n table)) (marked cols) (marked sides) (nth sides)
+    sides-lawful : (cols : List ℕ) → LawfulSides 2 (grid_of n (corrected_table n table)) (marked cols) (marked sides) (nth sides)
     unfolding corrected_grid
     sides-lawful cols = subst (λ (h : Grid). LawfulSides 2 h (marked cols) (marked sides) (nth sides)) (sym whole) (subst (λ (s : List ℕ). LawfulSides 2 (corrected_grid (grid_of n table)) (marked cols) (marked s) (nth s)) (sym sides_are) (least-lawful (grid_of n table) cols))
 
     -- C's answer
-    pub table-correction : {cols after : List ℕ} → cols ≡ keep_all n → after ≡ answer (grid_of n (corrected_table n table)) cols sides → after ≡ correction_answer (grid_of n table)
+    table-correction : {after : List ℕ} → after ≡ answer (grid_of n (corrected_table n table)) (keep_all n) sides → after ≡ correction_answer (grid_of n table)
     unfolding correction_answer grid_of
-    table-correction {cols} all e = e ∙ ap (λ (h : Grid). answer h cols sides) whole ∙ ap₂ (answer (corrected_grid (grid_of n table))) all sides_are
+    table-correction e = e ∙ ap (λ (h : Grid). answer h (keep_all n) sides) whole ∙ ap (answer (corrected_grid (grid_of n table)) (keep_all n)) sides_are
 
     -- a corrected cell, read from the bytes
     fixed-code : (i c : ℕ) → i < fragments table → c < n → get_or fixed (i * 128 + c) 0 ≡ (corrected_grid (grid_of n table)).cell i c
@@ -187,62 +188,63 @@ module _ {n m : ℕ} {table cells : List ℕ} (sized : SizesKept n m table) (kep
         rewritten-same (record_bytes_at table i) _ _ λ c from to. fixed-code i c hi (lt_of_lt_of_le to (sound-fits n (record_bytes_at table i) (accepted-sound n table _ _ kept.kept i hi))))
 
     -- the answer of the sides in the records that were written
-    pub table-answered : {cols records after : List ℕ} → records ≡ corrected_table n table → cols ≡ keep_all n
-        → (LetteredTable n records → m ≡ fragments records → LawfulSides 2 (grid_of n records) (marked cols) (marked sides) (nth sides) → after ≡ answer (grid_of n records) cols sides)
+    pub table-answered : {records after : List ℕ} → records ≡ corrected_table n table
+        → (LetteredTable n records → length sides ≡ fragments records → LawfulSides 2 (grid_of n records) (marked (keep_all n)) (marked sides) (nth sides) → after ≡ answer (grid_of n records) (keep_all n) sides)
         → after ≡ correction_answer (grid_of n table)
-    table-answered {cols} {records} {after} e all answered =
-        table-correction all (subst (λ (t : List ℕ). LetteredTable n t → m ≡ fragments t → LawfulSides 2 (grid_of n t) (marked cols) (marked sides) (nth sides) → after ≡ answer (grid_of n t) cols sides) e answered
-        (corrected-letters kept) (sym (fragments-of (corrected_table n table) (fragments table) (length-corrected n table) ∙ sized-count sized)) (sides-lawful cols))
+    table-answered {records} {after} e answered =
+        table-correction (subst (λ (t : List ℕ). LetteredTable n t → length sides ≡ fragments t → LawfulSides 2 (grid_of n t) (marked (keep_all n)) (marked sides) (nth sides) → after ≡ answer (grid_of n t) (keep_all n) sides) e answered
+        (corrected-letters kept) (sides-size ∙ sym (fragments-of (corrected_table n table) (fragments table) (length-corrected n table) ∙ sized-count sized)) (sides-lawful (keep_all n)))
 
 -- ---- what C returns and leaves
 
-module _ (n : ℕ) (table lent output work : List ℕ) where
-  -- what C's contract says: its outcome, its work, its answer and its table, in this order
+module _ (n : ℕ) (table lent output scratch : List ℕ) where
+  -- what C's contract says of its outcome and the three buffers
   abbrev pub CorrectionLeft : Verdict → List ℕ → List ℕ → List ℕ → Type 0
-  CorrectionLeft v w a t =
-      (v ≡ (corrections_leaves n table lent output work).outcome)
-      × ((w ≡ (corrections_leaves n table lent output work).work)
-      × ((a ≡ (corrections_leaves n table lent output work).answer) × (t ≡ (corrections_leaves n table lent output work).table)))
+  CorrectionLeft v w a t = record {
+    outcome : v ≡ (corrections_leaves n table lent output scratch).outcome;
+    work : w ≡ (corrections_leaves n table lent output scratch).work;
+    answer : a ≡ (corrections_leaves n table lent output scratch).answer;
+    corrected : t ≡ (corrections_leaves n table lent output scratch).table;
+  }
 
-  left_at : (v : Verdict) → (corrections_leaves n table lent output work).outcome ≡ v
-      → CorrectionLeft v (work_after v work) (written v (correction_answer (grid_of n table)) lent) (written v (corrected_table n table) output)
+  left_at : (v : Verdict) → (corrections_leaves n table lent output scratch).outcome ≡ v
+      → CorrectionLeft v (work_after v scratch) (written v (correction_answer (grid_of n table)) lent) (written v (corrected_table n table) output)
   unfolding corrections_leaves
-  left_at v e = (
-    sym e,
-    (
-      sym (ap (λ (v : Verdict). work_after v work) e),
-      (sym (ap (λ (v : Verdict). written v (correction_answer (grid_of n table)) lent) e), sym (ap (λ (v : Verdict). written v (corrected_table n table) output) e)),
-    ),
-  )
+  left_at v e = record {
+    outcome = sym e;
+    work = sym (ap (λ (v : Verdict). work_after v scratch) e);
+    answer = sym (ap (λ (v : Verdict). written v (correction_answer (grid_of n table)) lent) e);
+    corrected = sym (ap (λ (v : Verdict). written v (corrected_table n table) output) e);
+  }
 
   -- a rule but 12 is broken
-  pub correction-refuses : (number place : ℕ) → decide (concat (correction_stages n table lent output work)) (accepted (fragments table)) ≡ refused number place
-      → CorrectionLeft (refused number place) work lent output
+  pub correction-refuses : (number place : ℕ) → decide (concat (correction_stages n table lent output scratch)) (accepted (fragments table)) ≡ refused number place
+      → CorrectionLeft (refused number place) scratch lent output
   unfolding corrections_leaves correction_rules
-  correction-refuses number place e = left_at _ (stages-refused (correction_stages n table lent output work) _ _ _ number place e)
+  correction-refuses number place e = left_at _ (stages-refused (correction_stages n table lent output scratch) _ _ _ number place e)
 
-  module _ {m : ℕ} (kept : CorrectionKept n m table lent output work) where
+  module _ {m : ℕ} (kept : CorrectionKept n m table lent output scratch) where
+    -- the records keep their rules, with the number of fragments that the call accepts
+    pub sound-accepted : decide (table_rules n table) (accepted (fragments table)) ≡ accepted m
+    sound-accepted = decide-accepted _ _ _ _ (correction-kept n table lent output scratch m kept.kept).kept ∙ ap accepted (sized-count (correction-sized n table lent output scratch m kept.kept))
+
     -- 12 decides
-    after-stages : (v : Verdict) → decide (correction_rules n table lent output work) v ≡ decide (depth_rules (grid_of n table)) v
+    after-stages : (v : Verdict) → decide (correction_rules n table lent output scratch) v ≡ decide (depth_rules (grid_of n table)) v
     unfolding correction_rules
-    after-stages v = stages-kept (correction_stages n table lent output work) _ _ v m kept.kept ∙ stage-last _ v
+    after-stages v = stages-kept (correction_stages n table lent output scratch) _ _ v m kept.kept ∙ stage-last _ v
 
-    pub correction-deep : {deep : ℕ} → deep ≡ first_deep_of (grid_of n table) → deep < n → CorrectionLeft (refused 12 deep) work lent output
+    pub correction-deep : {deep : ℕ} → deep ≡ first_deep_of (grid_of n table) → deep < n → CorrectionLeft (refused 12 deep) scratch lent output
     unfolding corrections_leaves grid_of
     correction-deep e h = left_at _ (after-stages _ ∙ deep-refused (grid_of n table) _ (first-deep (grid_of n table) (rw (sym e) h)) ∙ ap (refused 12) (sym e))
 
     -- every rule is kept, and the work is done
-    pub correction-accepts : n ≤ first_deep_of (grid_of n table) → {k : ℕ} {w a t : List ℕ} → k ≡ changed_total (grid_of n table) (grid_of n (corrected_table n table)) → w ≡ replicate (length work) 0
+    pub correction-accepts : n ≤ first_deep_of (grid_of n table) → {k : ℕ} {w a t : List ℕ} → k ≡ changed_total (grid_of n table) (grid_of n (corrected_table n table)) → w ≡ replicate (length scratch) 0
         → a ≡ correction_answer (grid_of n table) → t ≡ corrected_table n table → CorrectionLeft (accepted k) w a t
     unfolding corrections_leaves grid_of
     correction-accepts e i j l o =
         let left = left_at _ (after-stages _ ∙ deep-kept (grid_of n table) _ (first-none (grid_of n table) e)) in
-        (ap accepted i ∙ left.0, (j ∙ left.1.0, (l ∙ left.1.1.0, o ∙ left.1.1.1)))
+        record { outcome = ap accepted i ∙ left.outcome; work = j ∙ left.work; answer = l ∙ left.answer; corrected = o ∙ left.corrected }
 
   -- what the contract's equations mean. A slice's bytes are below 256
-  pub correction-means : ((j : ℕ) → j < length table → get_or table j 0 < 256) → {v : Verdict} {w a t : List ℕ} → CorrectionLeft v w a t
-      → (v ≡ (corrections_leaves n table lent output work).outcome)
-      × ((w ≡ (corrections_leaves n table lent output work).work)
-      × ((a ≡ (corrections_leaves n table lent output work).answer) × ((t ≡ (corrections_leaves n table lent output work).table) × CorrectionSays n table a t v)))
-  correction-means bytes x =
-      (x.0, (x.1.0, (x.1.1.0, (x.1.1.1, record { least = λ k e. rw (x.1.1.0, x.1.1.1) (corrections-accepted n table lent output work k (sym x.0 ∙ e) bytes).0 }))))
+  pub correction-means : ((j : ℕ) → j < length table → get_or table j 0 < 256) → {v : Verdict} {w a t : List ℕ} → CorrectionLeft v w a t → CorrectionSays n table a t v
+  correction-means bytes x = record { least = λ k e. rw (x.answer, x.corrected) (corrections-accepted n table lent output scratch k (sym x.outcome ∙ e) bytes).0 }
