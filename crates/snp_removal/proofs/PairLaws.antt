@@ -1,6 +1,5 @@
--- The words of two columns say whether the columns are in conflict.
+-- The lines of two columns say whether the columns are in conflict.
 -- Assumes nothing.
-use Rattle.std.specs.Prelude.{if◌then◌else◌}
 use mathlib.Core.Path.{◌≡◌, refl, sym, ap, ap₂, ◌∙◌}
 use mathlib.Core.Bool.{Bool, true, false, not}
 use mathlib.Core.List.{List}
@@ -8,11 +7,10 @@ use mathlib.Core.Logic.{◌⊎◌, inl, inr}
 use Prim.Native.Nat.{ℕ, zero, suc, ◌-◌, ◌≤◌, ◌<◌}
 use native.Mathlib.Omega.{arith}
 use lib.Dec.{T}
-use Rattle.below.specs.Below.{◌=?◌, ◌<?◌, ◌and◌, ◌or◌, isnt, any_below}
+use Rattle.below.specs.Below.{◌=?◌, ◌and◌, ◌or◌, isnt, any_below}
 use Rattle.fields.specs.Record.{is_call_code}
 use Rattle.below.proofs.BelowLaws.{both, left-of, right_of, or_left, or_right, or_cases, same_test, =?-eq, =?-refl, eq-=?, isnt-=?, ne-isnt, any-ext}
 use Rattle.conflicts.specs.Grid.{Grid, calls_conflict, mixed}
-use Rattle.conflicts.specs.Tally.{no_calls, one_more_of, tallied, mixed_tally}
 use Rattle.places.specs.declared.places.Places.{Places}
 use Rattle.places.specs.declared.lines.Line.{Line}
 use Rattle.places.specs.Algorithm.Places.{places_where, occupied, conflict_places, agree_places, both_kinds}
@@ -67,9 +65,9 @@ module _ (x y : ℕ) where
 
 -- ---- two columns
 
-module _ (g : Grid) (words : List ℕ) (a c : ℕ) (masks : Masks (transposed g) words) (ha : a < g.n) (hc : c < g.n) where
+module _ (g : Grid) (lines : List Line) (a c : ℕ) (masks : Masks (transposed g) lines) (ha : a < g.n) (hc : c < g.n) where
   -- they have both kinds of fragments exactly if they are in conflict
-  words-conflict : both_kinds (line_at words a) (line_at words c) ≡ columns_conflict_in g a c
+  words-conflict : both_kinds (line_at lines a) (line_at lines c) ≡ columns_conflict_in g a c
   unfolding both_kinds transposed same_letter other_letter calls_both
   words-conflict =
       let t = transposed g in
@@ -81,42 +79,37 @@ module _ (g : Grid) (words : List ℕ) (a c : ℕ) (masks : Masks (transposed g)
       ∙ sym (conflict-kinds g a c)
 
 -- whether a column is mixed
-words-mixed : (g : Grid) (words : List ℕ) (c : ℕ) → Masks (transposed g) words → c < g.n → words_mixed words c ≡ mixed g c
+words-mixed : (g : Grid) (lines : List Line) (c : ℕ) → Masks (transposed g) lines → c < g.n → words_mixed lines c ≡ mixed g c
 unfolding words_mixed mixed transposed line_of
-words-mixed g words c masks h = ap₂ ◌and◌ (one 1 (λ l. l.a) refl) (one 2 (λ l. l.b) refl)
+words-mixed g lines c masks h = ap₂ ◌and◌ (one 1 (λ l. l.a) refl) (one 2 (λ l. l.b) refl)
   where
-    one : (letter : ℕ) (part : Line → Places) → part (line_of (transposed g) c) ≡ places_where (has_letter (transposed g) letter c) → occupied (part (line_at words c)) ≡ any_below g.m (λ i. g.cell i c =? letter)
+    one : (letter : ℕ) (part : Line → Places) → part (line_of (transposed g) c) ≡ places_where (has_letter (transposed g) letter c) → occupied (part (line_at lines c)) ≡ any_below g.m (λ i. g.cell i c =? letter)
     one letter part e = ap (λ (l : Line). occupied (part l)) (line-at (transposed g) c masks h) ∙ ap occupied (e ∙ letter-places (transposed g) letter c h) ∙ occupied-below g.m _ masks.narrow
 
--- a tally of one call of each letter that occurs
-letters-tally : (a b : Bool) → mixed_tally (tallied (tallied no_calls (if a then 1 else 0)) (if b then 2 else 0)) ≡ (a and b)
-unfolding mixed_tally tallied one_more_of ◌and◌ ◌=?◌ ◌<?◌
-letters-tally true true = refl
-letters-tally true false = refl
-letters-tally false true = refl
-letters-tally false false = refl
+pub mixed-none : (lines : List Line) (c : ℕ) {a : Bool} → a ≡ occupied (line_at lines c).a → a ≡ false → a ≡ words_mixed lines c
+unfolding words_mixed ◌and◌
+mixed-none lines c e f = f ∙ rw (← e, f)
 
-pub tally-is : (words : List ℕ) (c : ℕ) {a b : Bool} {x y : ℕ} → a ≡ occupied (line_at words c).a → b ≡ occupied (line_at words c).b → x ≡ (if a then 1 else 0) → y ≡ (if b then 2 else 0)
-    → mixed_tally (tallied (tallied no_calls x) y) ≡ words_mixed words c
-unfolding words_mixed
-tally-is words c {a} {b} ea eb ex ey = rw (ex, ey) (letters-tally a b ∙ ap₂ ◌and◌ ea eb)
+pub mixed-some : (lines : List Line) (c : ℕ) {a b : Bool} → a ≡ occupied (line_at lines c).a → a ≡ true → b ≡ occupied (line_at lines c).b → b ≡ words_mixed lines c
+unfolding words_mixed ◌and◌
+mixed-some lines c e t eb = rw (← e, t, eb)
 
-pub mixed-is : (g : Grid) (words : List ℕ) (c : ℕ) {r : Bool} → Masks (transposed g) words → c < g.n → r ≡ words_mixed words c → mixed g c ≡ r
-mixed-is g words c masks h e = sym (e ∙ words-mixed g words c masks h)
+pub mixed-is : (g : Grid) (lines : List Line) (c : ℕ) {r : Bool} → Masks (transposed g) lines → c < g.n → r ≡ words_mixed lines c → mixed g c ≡ r
+mixed-is g lines c masks h e = sym (e ∙ words-mixed g lines c masks h)
 
 -- ---- states
 
-pub words-follow : (g : Grid) (words : List ℕ) (j c : ℕ) → Masks (transposed g) words → j ≤ c → c < g.n → words_follow words j c ≡ can_follow g j c
+pub words-follow : (g : Grid) (lines : List Line) (j c : ℕ) → Masks (transposed g) lines → j ≤ c → c < g.n → words_follow lines j c ≡ can_follow g j c
 unfolding words_follow can_follow
-words-follow g words zero c masks le h = refl
-words-follow g words (suc a) c masks le h = ap isnt (words-conflict g words a c masks (omega arith) h)
+words-follow g lines zero c masks le h = refl
+words-follow g lines (suc a) c masks le h = ap isnt (words-conflict g lines a c masks (omega arith) h)
 
-pub follows-none : (words : List ℕ) (j c : ℕ) → j ≡ 0 → true ≡ words_follow words j c
+pub follows-none : (lines : List Line) (j c : ℕ) → j ≡ 0 → true ≡ words_follow lines j c
 unfolding words_follow
-follows-none words j c e = rw e
+follows-none lines j c e = rw e
 
-pub follows-last : (words : List ℕ) (j c : ℕ) (b : Bool) → (j ≡ 0 → ⊥)
-    → b ≡ both_kinds (line_at words (j - 1)) (line_at words c) → not b ≡ words_follow words j c
+pub follows-last : (lines : List Line) (j c : ℕ) (b : Bool) → (j ≡ 0 → ⊥)
+    → b ≡ both_kinds (line_at lines (j - 1)) (line_at lines c) → not b ≡ words_follow lines j c
 unfolding words_follow isnt
-follows-last words zero c b ne e = absurd (ne refl)
-follows-last words (suc j) c b ne e = ap not (e ∙ ap (λ (a : ℕ). both_kinds (line_at words a) (line_at words c)) (let q : suc j - 1 ≡ j = omega arith in q))
+follows-last lines zero c b ne e = absurd (ne refl)
+follows-last lines (suc j) c b ne e = ap not (e ∙ ap (λ (a : ℕ). both_kinds (line_at lines a) (line_at lines c)) (let q : suc j - 1 ≡ j = omega arith in q))

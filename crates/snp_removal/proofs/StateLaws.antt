@@ -9,14 +9,17 @@ use native.Mathlib.Nat.{two-pow-succ}
 use native.Mathlib.Numerals.{add-one}
 use native.Mathlib.Omega.{arith}
 use lib.Pow.{pow_mono, pow_pos}
+use lib.ListN.{replicate}
+use Rattle.below.specs.Below.{nth}
 use Rattle.conflicts.specs.Grid.{Grid, mixed}
-use Rattle.masks.specs.Algorithm.Masks.{transposed, Masks}
+use Rattle.places.specs.declared.lines.Line.{Line}
+use Rattle.masks.specs.Algorithm.Masks.{transposed, Masks, mask_words, words_grid}
 use Rattle.ranks.specs.declared.rank.Rank.{Rank}
 use Rattle.ranks.specs.Algorithm.Weight.{top, place, AtMost, removal}
 use Rattle.ranks.specs.Algorithm.Reading.{code, value, SumFits}
-use Rattle.ranks.specs.Algorithm.Tables.{Sweep}
+use Rattle.ranks.specs.Algorithm.Tables.{Sweep, weights_of}
 use Rattle.ranks.proofs.WeightLaws.{at_most-more}
-use Rattle.ranks.proofs.TableLaws.{parts-small, sweep-as}
+use Rattle.ranks.proofs.TableLaws.{parts-small, sweep-as, zeros-weights}
 use Rattle.snp_removal.specs.Algorithm.Columns.{can_follow, words_follow}
 use Rattle.snp_removal.specs.Algorithm.Programme.{choose_column, least_column_weight, if_follows, ColumnRoom, HoldsColumns}
 use Rattle.snp_removal.proofs.PairLaws.{words-follow}
@@ -73,9 +76,13 @@ mixed-weight i j v may may' em eh eo ek eg ex = ex ∙ rw (em, eg, eo, eh, ek)
 -- ---- what the table holds
 
 module _ (g : Grid) where
-  pub holds-none : (v : ℕ → ℕ) → ((j : ℕ) → v j ≡ 0) → HoldsColumns g 0 v
+  holds-none : (v : ℕ → ℕ) → ((j : ℕ) → v j ≡ 0) → HoldsColumns g 0 v
   unfolding least_column_weight
   holds-none v zeros = record { holds = λ j le. zeros j }
+
+  -- a table of zeros
+  pub zeros-held : {t : List ℕ} → t ≡ weights_of (replicate 129 0) (replicate 129 0) (replicate 129 0) → HoldsColumns g 0 (nth t)
+  zeros-held e = holds-none _ (λ j. ap (λ (t : List ℕ). nth t j) e ∙ zeros-weights 129 129 129 j)
 
   module _ (k i : ℕ) (v : ℕ → ℕ) (inside : k < g.n) (is : i ≡ g.n - 1 - k) (held : HoldsColumns g k v) where
     pub holds-room : g.n ≤ 128 → ColumnRoom i v
@@ -104,7 +111,12 @@ module _ (g : Grid) where
 pub turn : (may : Bool) (i j : ℕ) {f old now : ℕ → ℕ} → Sweep f old now 0 j → j ≤ i → if_follows may i now j ≡ if_follows may i old j
 turn may i j s le = rw (s.rest j (λ lo hi. omega arith), s.rest (i + 1) (λ lo hi. omega arith))
 
--- the words of the columns tell what the column makes of the table
-pub by-words : (g : Grid) (words : List ℕ) (i : ℕ) {v now : ℕ → ℕ} → Masks (transposed g) words → i < g.n
-    → Sweep (λ j. if_follows (words_follow words j i) i v j) v now 0 (i + 1) → Sweep (λ j. if_follows (can_follow g j i) i v j) v now 0 (i + 1)
-by-words g words i {v} masks l = sweep-as (λ j h. ap (λ (may : Bool). if_follows may i v j) (words-follow g words j i masks (omega arith) l))
+-- the lines of the columns of a matrix of masks
+pub columns-of : (m n : ℕ) (masks : List Line) {columns : List Line} → m ≤ 128 → n ≤ 128 → columns ≡ mask_words (transposed (words_grid m n masks)) → Masks (transposed (words_grid m n masks)) columns
+unfolding transposed words_grid
+columns-of m n masks few narrow e = record { few = narrow; narrow = few; are = e }
+
+-- the lines of the columns tell what the column makes of the table
+pub by-lines : (g : Grid) (lines : List Line) (i : ℕ) {v now : ℕ → ℕ} → Masks (transposed g) lines → i < g.n
+    → Sweep (λ j. if_follows (words_follow lines j i) i v j) v now 0 (i + 1) → Sweep (λ j. if_follows (can_follow g j i) i v j) v now 0 (i + 1)
+by-lines g lines i {v} masks l = sweep-as (λ j h. ap (λ (may : Bool). if_follows may i v j) (words-follow g lines j i masks (omega arith) l))

@@ -1,7 +1,8 @@
 // The programme over suffixes of the columns, in place: one least weight for each state (paper 001, section 5.1).
-ghost use Rattle.std.specs.Prelude.{◌≡◌, ◌+◌, ◌-◌, ◌<◌, ◌≤◌, length};
+ghost use Rattle.std.specs.Prelude.{◌≡◌, ◌+◌, ◌-◌, ◌<◌, ◌≤◌};
 ghost use Rattle.below.specs.Below.{nth};
-ghost use Rattle.masks.specs.Algorithm.Masks.{transposed, Masks, words_grid};
+ghost use Rattle.conflicts.specs.Grid.{Grid};
+ghost use Rattle.masks.specs.Algorithm.Masks.{transposed, Masks};
 ghost use Rattle.ranks.specs.Algorithm.Weight.{place, AtMost, removal};
 ghost use Rattle.ranks.specs.Algorithm.Reading.{value};
 ghost use Rattle.ranks.specs.Algorithm.Tables.{Sweep};
@@ -9,6 +10,7 @@ ghost use Rattle.snp_removal.specs.Algorithm.Columns.{words_follow};
 ghost use Rattle.snp_removal.specs.Algorithm.Programme.{if_follows, ColumnRoom, HoldsColumns};
 
 use crate::columns;
+use places::Line;
 use ranks::rank::Rank;
 use ranks::table::Ranks;
 
@@ -16,8 +18,8 @@ use ranks::table::Ranks;
 pub(crate) const STATES: usize = 129;
 
 // The least weight at state j with the mixed column i before the columns of the table, which costs `out` if it is removed.
-fn weight_at(columns: &[u64], t: &Ranks<'_, STATES>, out: Rank, i: usize, j: usize) -> Rank
-    requires { (length columns.now ≡ 512) × (i < 128) × (j ≤ i) × (value out ≡ removal i)
+fn weight_at(columns: &[Line; 128], t: &Ranks<'_, STATES>, out: Rank, i: usize, j: usize) -> Rank
+    requires { (i < 128) × (j ≤ i) × (value out ≡ removal i)
         × AtMost 127 (place i - 1) (nth t.now j) × AtMost 127 (place i - 1) (nth t.now (i + 1)) }
     ensures { (value result ≡ if_follows (words_follow columns.now j i) i (nth t.now) j) × (result.count < 65536) }
 {
@@ -26,8 +28,8 @@ fn weight_at(columns: &[u64], t: &Ranks<'_, STATES>, out: Rank, i: usize, j: usi
 }
 
 // The mixed column i, at every state before it.
-fn column(columns: &[u64], t: &mut Ranks<'_, STATES>, i: usize)
-    requires { (length columns.now ≡ 512) × (i < 128) × ColumnRoom i (nth t.old) }
+fn column(columns: &[Line; 128], t: &mut Ranks<'_, STATES>, i: usize)
+    requires { (i < 128) × ColumnRoom i (nth t.old) }
     ensures { Sweep (λ j. if_follows (words_follow columns.now j i) i (nth t.old) j) (nth t.old) (nth t.new) 0 (i + 1) }
 {
     let out = Rank::single(1, i);
@@ -37,11 +39,10 @@ fn column(columns: &[u64], t: &mut Ranks<'_, STATES>, i: usize)
     }
 }
 
-// One column more, before the last k.
-fn extend(m: usize, n: usize, masks: &[u64], columns: &[u64], t: &mut Ranks<'_, STATES>, k: usize)
-    requires { (m ≤ 128) × (n ≤ 128) × (length columns.now ≡ 512) × Masks (transposed (words_grid m n masks.now)) columns.now × (k < n)
-        × HoldsColumns (words_grid m n masks.now) k (nth t.old) }
-    ensures { HoldsColumns (words_grid m n masks.now) (k + 1) (nth t.new) }
+// One of n columns more, before the last k.
+fn extend(n: usize, columns: &[Line; 128], t: &mut Ranks<'_, STATES>, k: usize)
+    requires { (n ≤ 128) × (k < n) × (g : Grid) × Masks (transposed g) columns.now × (n ≡ g.n) × HoldsColumns g k (nth t.old) }
+    ensures { (g : Grid) → Masks (transposed g) columns.now → n ≡ g.n → HoldsColumns g k (nth t.old) → HoldsColumns g (k + 1) (nth t.new) }
 {
     let i = n - 1 - k;
     if columns::column_mixed(columns, i) {
@@ -49,19 +50,12 @@ fn extend(m: usize, n: usize, masks: &[u64], columns: &[u64], t: &mut Ranks<'_, 
     }
 }
 
-// All columns, from a table of zeros.
-pub(crate) fn suffixes(
-    m: usize,
-    n: usize,
-    masks: &[u64],
-    columns: &[u64],
-    t: &mut Ranks<'_, STATES>,
-)
-    requires { (m ≤ 128) × (n ≤ 128) × (length columns.now ≡ 512) × Masks (transposed (words_grid m n masks.now)) columns.now
-        × HoldsColumns (words_grid m n masks.now) 0 (nth t.old) }
-    ensures { HoldsColumns (words_grid m n masks.now) n (nth t.new) }
+// All n columns, from a table of zeros.
+pub(crate) fn suffixes(n: usize, columns: &[Line; 128], t: &mut Ranks<'_, STATES>)
+    requires { (n ≤ 128) × (g : Grid) × Masks (transposed g) columns.now × (n ≡ g.n) × HoldsColumns g 0 (nth t.old) }
+    ensures { (g : Grid) → Masks (transposed g) columns.now → n ≡ g.n → HoldsColumns g 0 (nth t.old) → HoldsColumns g n (nth t.new) }
 {
     for k in 0..n {
-        extend(m, n, masks, columns, t, k);
+        extend(n, columns, t, k);
     }
 }

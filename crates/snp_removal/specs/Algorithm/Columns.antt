@@ -4,6 +4,7 @@ use Rattle.std.specs.Prelude.{ℕ, zero, suc, Bool, true, List}
 use Rattle.below.specs.Below.{◌=?◌, ◌and◌, ◌or◌, isnt, any_below}
 use Rattle.fields.specs.Record.{is_call_code}
 use Rattle.conflicts.specs.Grid.{Grid}
+use Rattle.places.specs.declared.lines.Line.{Line}
 use Rattle.places.specs.Algorithm.Places.{occupied, both_kinds}
 use Rattle.masks.specs.Algorithm.Masks.{line_at}
 
@@ -25,11 +26,11 @@ unfoldable pub can_follow : Grid → ℕ → ℕ → Bool
 can_follow g zero c = true
 can_follow g (suc a) c = isnt (columns_conflict_in g a c)
 
--- the same by the words of the columns' masks: no fragment has one letter at both, or none has two
-unfoldable pub words_follow : List ℕ → ℕ → ℕ → Bool
-words_follow words zero c = true
-words_follow words (suc a) c = isnt (both_kinds (line_at words a) (line_at words c))
+-- the same by the lines of the columns' masks: no fragment has one letter at both, or none has two
+unfoldable pub words_follow : List Line → ℕ → ℕ → Bool
+words_follow lines zero c = true
+words_follow lines (suc a) c = isnt (both_kinds (line_at lines a) (line_at lines c))
 
--- a column is mixed, by its words
-unfoldable pub words_mixed : List ℕ → ℕ → Bool
-words_mixed words c = occupied (line_at words c).a and occupied (line_at words c).b
+-- a column is mixed, by its line
+unfoldable pub words_mixed : List Line → ℕ → Bool
+words_mixed lines c = occupied (line_at lines c).a and occupied (line_at lines c).b

@@ -21,11 +21,10 @@ weight_at-r-requires c =
     let i = c.args.i in
     let s0 = l.invariant.swept in (
       c.requires.0,
-      c.requires.1,
       omega arith,
       l.invariant.out,
-      subst (AtMost 127 (place i - 1)) (sym (s0.rest l.j (λ lo hi. omega arith))) (c.requires.2.room l.j (omega arith)),
-      subst (AtMost 127 (place i - 1)) (sym (s0.rest (i + 1) (λ lo hi. omega arith))) (c.requires.2.room (i + 1) (le_refl (i + 1))),
+      subst (AtMost 127 (place i - 1)) (sym (s0.rest l.j (λ lo hi. omega arith))) (c.requires.1.room l.j (omega arith)),
+      subst (AtMost 127 (place i - 1)) (sym (s0.rest (i + 1) (λ lo hi. omega arith))) (c.requires.1.room (i + 1) (le_refl (i + 1))),
     )
 
 pub loop-j-preserved : goal.loop-j-preserved

@@ -11,7 +11,7 @@ use Rattle.snp_removal.proofs.programme.weight_at.Goals as goal
 
 pub plus-gone-requires : goal.plus-gone-requires
 plus-gone-requires c =
-    sum_fits c.args.i c.args.out c.get.result c.requires.1 (search rules) (search rules) (search rules) (search rules) c.requires.3 c.get.ensures c.requires.4
+    sum_fits c.args.i c.args.out c.get.result c.requires.0 (search rules) (search rules) (search rules) (search rules) c.requires.2 c.get.ensures c.requires.3
 
 pub returns : goal.returns
 returns c =
@@ -19,5 +19,5 @@ returns c =
     let v = nth a.t.now in
     let may = words_follow a.columns.now a.j a.i in
     let is : value c.lesser_if.result ≡ if_follows may a.i v a.j =
-    mixed-weight a.i a.j v _ may c.may_follow.ensures c.get.ensures c.requires.3 c.get-2.ensures c.plus-gone.ensures c.lesser_if.ensures in
-    (is, count_fits may a.i a.j v c.lesser_if.result c.requires.1 (search rules) (search rules) is c.requires.4 c.requires.5)
+    mixed-weight a.i a.j v _ may c.may_follow.ensures c.get.ensures c.requires.2 c.get-2.ensures c.plus-gone.ensures c.lesser_if.ensures in
+    (is, count_fits may a.i a.j v c.lesser_if.result c.requires.0 (search rules) (search rules) is c.requires.3 c.requires.4)
