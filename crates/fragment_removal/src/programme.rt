@@ -3,16 +3,16 @@
 ghost use Rattle.std.specs.Prelude.{◌≡◌, ◌+◌, ◌-◌, ◌<◌, ◌≤◌, length, replicate};
 ghost use Rattle.below.specs.Below.{nth};
 ghost use Rattle.conflicts.specs.Choice.{zeros};
-ghost use Rattle.matrix.specs.Algorithm.Matrix.{Gapless};
 ghost use Rattle.fields.specs.Writing.{calls_start_of};
-ghost use Rattle.masks.specs.Algorithm.Masks.{line_at, code_in, words_grid};
+ghost use Rattle.masks.specs.Algorithm.Masks.{line_at, code_in};
 ghost use Rattle.conflicts.specs.Removal.{fragment_keep_marks_of};
 ghost use Rattle.fragment_pairs.specs.Algorithm.Pairs.{pairs};
-ghost use Rattle.fragment_removal.specs.Algorithm.Holding.{Prepared, HoldsFragments, Dead, Behind};
+ghost use Rattle.fragment_removal.specs.Algorithm.Holding.{HoldsFragments, Dead, Behind};
+ghost use Rattle.fragment_removal.specs.Algorithm.Matrix.{grid_in};
 
+use crate::fragments::Fragments;
 use fragment_pairs::{Fragment, PLACES, STATES, births, layer};
 use fragment_states::{calls_below, fill_agreements};
-use masks::line_at;
 use places::Line;
 use ranks::rank::Rank;
 use ranks::table::Ranks;
@@ -39,80 +39,65 @@ fn last_behind(reaches: &[u8; STATES], start: u8, most: usize) -> usize
     most
 }
 
-// The last state, at most d, such that neither it nor one before it reaches past the start of the fragment at position i.
-fn last_dead(n: usize, masks: &[u64], reaches: &[u8; STATES], i: usize, d: usize) -> usize
-    requires { (n ≤ 128) × (length masks.now ≡ 512) × (nth reaches.now 0 ≡ 0) × (i < 128) }
-    ensures { (result ≤ d) × (result ≤ i) × Behind reaches.now (calls_start_of n (code_in (line_at masks.now i))) result }
-{
-    let start = line_start(n, line_at(masks, i));
-    last_behind(reaches, start, d.min(i))
-}
-
-// One fragment more, before the last k. The states up to d are dead, and d stands for them; it returns the last of those that are dead before the fragment too.
-fn extend(
-    m: usize,
-    n: usize,
-    masks: &[u64],
-    reaches: &[u8; STATES],
-    t: &mut Ranks<'_, PLACES>,
-    k: usize,
-    d: usize,
-) -> usize
-    requires { Prepared m n masks.now reaches.now × (k < m) × (d ≤ m - k)
-        × Dead (words_grid m n masks.now) k d × HoldsFragments (words_grid m n masks.now) k d (pairs t.old) }
-    ensures { (result ≤ m - (k + 1)) × Dead (words_grid m n masks.now) (k + 1) result
-        × HoldsFragments (words_grid m n masks.now) (k + 1) result (pairs t.new) }
-{
-    let i = m - 1 - k;
-    let dead = last_dead(n, masks, reaches, i, d);
-    births(t, dead, d, i + 1);
-    let mut agrees = [0u8; STATES];
-    fill_agreements(masks, dead, i, &mut agrees);
-    let fragment = Fragment {
-        agrees: &agrees,
-        reaches,
-        own: Rank::single(1, i),
-        i,
-    };
-    layer(t, &fragment, dead);
-    dead
-}
-
-// All fragments, from a table of zeros.
-fn suffixes(m: usize, n: usize, masks: &[u64], reaches: &[u8; STATES], t: &mut Ranks<'_, PLACES>)
-    requires { Prepared m n masks.now reaches.now
-        × HoldsFragments (words_grid m n masks.now) 0 m (pairs t.old) }
-    ensures { HoldsFragments (words_grid m n masks.now) m 0 (pairs t.new) }
-{
-    let mut d = m;
-    for k in 0..m {
-        d = extend(m, n, masks, reaches, t, k, d);
+impl<'a> Fragments<'a> {
+    // The last state, at most d, such that neither it nor one before it reaches past the start of the fragment at position i.
+    fn last_dead(&self, i: usize, d: usize) -> usize
+        requires { i < 128 }
+        ensures { (result ≤ d) × (result ≤ i) × Behind self.now.reaches.now (calls_start_of self.now.n (code_in (line_at self.now.masks.now i))) result }
+    {
+        let start = line_start(self.n, self.masks[i]);
+        last_behind(self.reaches, start, d.min(i))
     }
-}
 
-// The keep marks of the least removal, and how many fragments it removes.
-pub(crate) fn least(
-    m: usize,
-    n: usize,
-    masks: &[u64],
-    reaches: &[u8; STATES],
-    work: &mut [u16],
-    keep: &mut [u8],
-) -> usize
-    requires { Prepared m n masks.now reaches.now × Gapless (words_grid m n masks.now) × (16641 ≤ length work.old) × (length keep.old ≡ m) }
-    ensures { (keep.new ≡ fragment_keep_marks_of (words_grid m n masks.now)) × (result ≡ zeros (fragment_keep_marks_of (words_grid m n masks.now)))
-        × (work.new ≡ replicate (length work.old) 0) }
-{
-    let mut highs = [0u64; PLACES];
-    let mut lows = [0u64; PLACES];
-    work.fill(0);
-    let counts = work.first_chunk_mut().unwrap();
-    let mut table = Ranks::new(counts, &mut highs, &mut lows);
-    suffixes(m, n, masks, reaches, &mut table);
-    let most = table.get(0);
-    for (p, mark) in keep.iter_mut().enumerate() {
-        *mark = most.digit(p);
+    // One fragment more, before the last k. The states up to d are dead, and d stands for them; it returns the last of those that are dead before the fragment too.
+    fn extend(&self, t: &mut Ranks<'_, PLACES>, k: usize, d: usize) -> usize
+        requires { (k < self.now.m) × (d ≤ self.now.m - k) × Dead (grid_in self.now) k d × HoldsFragments (grid_in self.now) k d (pairs t.old) }
+        ensures { (result ≤ self.now.m - (k + 1)) × Dead (grid_in self.now) (k + 1) result
+            × HoldsFragments (grid_in self.now) (k + 1) result (pairs t.new) }
+    {
+        let i = self.m - 1 - k;
+        let dead = self.last_dead(i, d);
+        births(t, dead, d, i + 1);
+        let mut agrees = [0u8; STATES];
+        fill_agreements(self.masks, dead, i, &mut agrees);
+        let fragment = Fragment {
+            agrees: &agrees,
+            reaches: self.reaches,
+            own: Rank::single(1, i),
+            i,
+        };
+        layer(t, &fragment, dead);
+        dead
     }
-    work.fill(0); // it is handed back all zero
-    m - most.count as usize
+
+    // All fragments, from a table of zeros.
+    fn suffixes(&self, t: &mut Ranks<'_, PLACES>)
+        requires { HoldsFragments (grid_in self.now) 0 self.now.m (pairs t.old) }
+        ensures { HoldsFragments (grid_in self.now) self.now.m 0 (pairs t.new) }
+    {
+        let mut d = self.m;
+        for k in 0..self.m {
+            d = self.extend(t, k, d);
+        }
+    }
+
+    // The keep marks of the least removal, and how many fragments it removes.
+    pub(crate) fn least(&self, work: &mut [u16], keep: &mut [u8]) -> usize
+        requires { (16641 ≤ length work.old) × (length keep.old ≡ self.now.m) }
+        ensures { (keep.new ≡ fragment_keep_marks_of (grid_in self.now)) × (result ≡ zeros (fragment_keep_marks_of (grid_in self.now)))
+            × (work.new ≡ replicate (length work.old) 0) }
+    {
+        let mut highs = [0u64; PLACES];
+        let mut lows = [0u64; PLACES];
+        work.fill(0);
+        let counts = work.first_chunk_mut().unwrap();
+        let mut table = Ranks::new(counts, &mut highs, &mut lows);
+        self.suffixes(&mut table);
+        let most = table.get(0);
+        for (p, mark) in keep.iter_mut().enumerate() {
+            *mark = most.digit(p);
+        }
+        work.fill(0); // it is handed back all zero
+        self.m - most.count as usize
+    }
 }

@@ -1,22 +1,22 @@
 -- What the programme reads, and what its table holds after each fragment.
 -- Assumes nothing.
-use Rattle.std.specs.Prelude.{◌≡◌, List, ℕ, ◌+◌, ◌-◌, ◌≤◌, ◌<◌, length}
+use Rattle.std.specs.Prelude.{◌≡◌, List, ℕ, ◌+◌, ◌-◌, ◌≤◌, ◌<◌}
 use Rattle.below.specs.Below.{nth}
 use Rattle.fields.specs.Writing.{calls_start_of}
 use Rattle.conflicts.specs.Grid.{Grid}
-use Rattle.matrix.specs.Algorithm.Matrix.{Rising}
+use Rattle.matrix.specs.Algorithm.Matrix.{Gapless, Rising}
+use Rattle.places.specs.declared.lines.Line.{Line}
 use Rattle.masks.specs.Algorithm.Masks.{Masks, words_grid}
 use Rattle.fragment_states.specs.Algorithm.Fragments.{Begins, state_reach_of}
 use Rattle.fragment_removal.specs.Algorithm.Programme.{most_kept}
 
--- what the programme reads: the words of a matrix whose fragments rise by start, and how far each state reaches
-pub record Prepared (m n : ℕ) (words reaches : List ℕ) : Type 0 where
+-- what the programme reads: the lines of a gapless matrix whose fragments rise by start, and how far each state reaches
+pub record Prepared (m n : ℕ) (lines : List Line) (reaches : List ℕ) : Type 0 where
   pub few : m ≤ 128
-  pub words_size : length words ≡ 512
-  pub masks : Masks (words_grid m n words) words
-  pub reaches_size : length reaches ≡ 129
-  pub rising : Rising (words_grid m n words)
-  pub reaching : Begins (state_reach_of (words_grid m n words)) (m + 1) reaches
+  pub masks : Masks (words_grid m n lines) lines
+  pub gapless : Gapless (words_grid m n lines)
+  pub rising : Rising (words_grid m n lines)
+  pub reaching : Begins (state_reach_of (words_grid m n lines)) (m + 1) reaches
 
 -- a table of weights holds the greatest of the last k fragments, at every pair of states from d on that can stand before them
 pub record HoldsFragments (g : Grid) (k d : ℕ) (v : ℕ → ℕ → ℕ) : Type 0 where

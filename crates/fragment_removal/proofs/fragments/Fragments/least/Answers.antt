@@ -1,4 +1,4 @@
--- `programme::least` meets its contract. A call's `.type_inv` says that the fields of the Rank it hands back fit; `.1.1.1.0.1` is its higher word, `.1.1.1.1.0.1` its lower.
+-- `fragments::Fragments::least` meets its contract. A call's `.type_inv` says that the fields of the Rank it hands back fit; `.1.1.1.0.1` is its higher word, `.1.1.1.1.0.1` its lower.
 use mathlib.Core.Path.{◌≡◌, ◌∙◌}
 use Prim.Native.Nat.{◌+◌, zero-le}
 use native.Mathlib.Omega.{arith}
@@ -12,32 +12,34 @@ use Rattle.masks.specs.Algorithm.Masks.{words_grid}
 use Rattle.ranks.specs.Algorithm.Weight.{digit_at}
 use Rattle.ranks.specs.Algorithm.Reading.{code}
 use Rattle.fragment_pairs.specs.Algorithm.Pairs.{row_start_of, corner}
+use Rattle.fragment_removal.specs.Algorithm.Matrix.{grid_in}
 use Rattle.fragment_removal.proofs.HoldingLaws.{zeros-pairs, holds-none}
 use Rattle.fragment_removal.proofs.FragmentLaws.{rank-marks}
-use Rattle.fragment_removal.proofs.programme.least.Goals as goal
-use Rattle.fragment_removal.proofs.programme.least.Goals.{After-get-most}
+use Rattle.fragment_removal.proofs.fragments.Fragments.least.Goals as goal
+use Rattle.fragment_removal.proofs.fragments.Fragments.least.Goals.{After-get-most}
 
 pub suffixes-requires : goal.suffixes-requires
 suffixes-requires c =
     let zero : c.fill.new.self ≡ replicate (length c.args.work.now) 0 = search rules in
     let first : c.unwrap-counts.result.now ≡ take 8385 c.fill.new.self = search rules in
-    (c.requires.0, holds-none _ _ _ (zeros-pairs (omega arith) zero first c.new-table.ensures))
+    holds-none _ _ _ (zeros-pairs (omega arith) zero first c.new-table.ensures)
 
 -- what the weight of the first states says
 marks : (c : After-get-most) →
     let a = c.args in
-    let g = words_grid a.m a.n a.masks.now in
+    let g = grid_in a.self.now in
     let r = c.get-most.result in
-    (tab a.m (λ p. digit_at (code r) p) ≡ fragment_keep_marks_of g) × (r.count + zeros (fragment_keep_marks_of g) ≡ a.m)
+    (tab a.self.now.m (λ p. digit_at (code r) p) ≡ fragment_keep_marks_of g) × (r.count + zeros (fragment_keep_marks_of g) ≡ a.self.now.m)
 unfolding words_grid row_start_of corner
 marks c =
     let r = c.get-most in
     let a = c.args in
-    rank-marks (words_grid a.m a.n a.masks.now) c.requires.1 c.requires.0.rising c.requires.0.few r.result r.type_inv.1.1.1.0.1 r.type_inv.1.1.1.1.0.1
+    let p = a.self.now.prepared in
+    rank-marks (grid_in a.self.now) p.gapless p.rising p.few r.result r.type_inv.1.1.1.0.1 r.type_inv.1.1.1.1.0.1
     (r.ensures ∙ c.suffixes.ensures.holds 0 0 zero-le zero-le zero-le zero-le)
 
 pub loop-p-init : goal.loop-p-init
-loop-p-init c = filled_none _ _ _ c.requires.3
+loop-p-init c = filled_none _ _ _ c.requires.1
 
 pub loop-p-preserved : goal.loop-p-preserved
 loop-p-preserved c = let l = c.loop-p in filled_more _ _ l.p l.keep _ l.invariant (omega arith) c.digit.ensures
