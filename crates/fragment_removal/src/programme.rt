@@ -27,6 +27,7 @@ fn line_start(n: usize, line: Line) -> u8
 }
 
 // The last state, at most `most`, such that neither it nor one before it reaches past a start.
+// A loop: over `position` on the slice of the reaches, the proof of what it gives did not close.
 fn last_behind(reaches: &[u8; STATES], start: u8, most: usize) -> usize
     requires { (nth reaches.now 0 ≡ 0) × (most ≤ 128) }
     ensures { (result ≤ most) × Behind reaches.now start result }
