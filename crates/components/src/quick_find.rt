@@ -34,7 +34,7 @@ fn new_label(x: u8, lo: u8, hi: u8) -> u8
     if x == hi { lo } else { x }
 }
 
-// The side after component hi is taken in.
+// The side after component hi is taken in. Sides are the bytes 1 and 2, as they stand in an answer.
 fn new_side(x: u8, hi: u8, turn: bool, side: u8) -> u8
     ensures { result ≡ if x =? hi then side_turned turn side else side }
 {

@@ -21,7 +21,7 @@ impl Tally {
         Tally { a: 0, b: 0 }
     }
 
-    // The tally with one call more; a code that is no call leaves it, and a count at its last number stays there.
+    // The tally with one call more; a code that is no call leaves it, and a count at its last number stays there. A code is a byte of the records' format, and any is taken.
     pub fn with_call(self, code: u8) -> Tally
         ensures { result ≡ tallied self code }
     {

@@ -46,5 +46,5 @@ pub fn least_cost_sides(
     for (p, side) in sides.iter_mut().enumerate() {
         *side = 1 + r.digit(p);
     }
-    r.count as usize
+    r.count as usize // a cast, since usize has no From<u32>
 }

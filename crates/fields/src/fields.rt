@@ -51,7 +51,7 @@ pub fn grade(part: &[u8]) -> u8
     byte(part, 7)
 }
 
-// A or B.
+// A or B. A code is a byte of the records' format, and any is taken.
 pub fn is_call(code: u8) -> bool
     ensures { result ≡ is_call_code code }
 {

@@ -5,7 +5,7 @@ ghost use Rattle.fields.specs.Record.{cell_of, code_at};
 
 use crate::fields::{CELLS, HEADER_BYTES, HOLE, byte, cell, span, start};
 
-// Writes 0 to every byte.
+// Writes 0 to every byte: a name of its own for programs of the centre.
 pub fn clear(row: &mut [u8])
     ensures { row.new ≡ replicate (length row.old) 0 }
 {

@@ -17,7 +17,7 @@ use places::Line;
 use ranks::rank::Rank;
 use ranks::table::Ranks;
 
-// The first of n columns that a line calls, and 0 where it calls none.
+// The first of n columns that a line calls, and 0 where it calls none: a number, as `calls_start_of` defines it.
 fn line_start(n: usize, line: Line) -> u8
     requires { n ≤ 128 }
     ensures { result ≡ calls_start_of n (code_in line) }
@@ -99,6 +99,6 @@ impl<'a> Fragments<'a> {
             *mark = most.digit(p);
         }
         work.fill(0); // it is handed back all zero
-        self.m - most.count as usize
+        self.m - most.count as usize // a cast, since usize has no From<u32>
     }
 }

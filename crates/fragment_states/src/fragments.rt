@@ -17,7 +17,7 @@ pub fn calls_below(n: usize, line: Line) -> Places
     Places::first(n).both(line.a.either(line.b))
 }
 
-// One past the last of the first n columns that a line calls, and 0 where it calls none.
+// One past the last of the first n columns that a line calls, and 0 where it calls none: a number, as `calls_end_of` defines it.
 fn line_end(n: usize, line: Line) -> u8
     requires { n ≤ 128 }
     ensures { result ≡ calls_end_of n (code_in line) }

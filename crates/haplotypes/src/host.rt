@@ -12,7 +12,7 @@ use records::Refusal;
 use removals::{least_fragment_removal, least_snp_removal};
 use verdicts::check;
 
-// A count as it is, a refusal as base × number + place.
+// A count as it is, a refusal as base × number + place: no From, since the base is the caller's. Casts, since u64 has no From<usize>.
 fn host_number(base: u64, outcome: Result<usize, Refusal>) -> u64
     requires base_bound { base ≤ 4294967296 }
     requires host_fits { HostFits base (outcome_of outcome) }

@@ -1,4 +1,4 @@
-// The services exported to programs in C and Rust: a slice is a pointer and a length, and the outcome is one number.
+// The services exported to programs in C and Rust: a slice is a pointer and a length, and the outcome is one number. Each calls the function of its name in `haplotypes`, since only a static library has names for C.
 #![tactic(auto)]
 
 ghost use Rattle.std.specs.Prelude.{◌≡◌};

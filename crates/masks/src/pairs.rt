@@ -37,7 +37,7 @@ fn number_row(masks: &[Line; 128], keep: Places, frags: &[u8], i: usize, matrix:
     }
 }
 
-// The numbers of all pairs, 128 to a fragment, and 0 where a fragment is removed.
+// The numbers of all pairs, 128 to a fragment, and 0 where a fragment is removed. The three that are read are named one by one: only conflict_counts calls it, once.
 pub fn fill_pairs(masks: &[Line; 128], keep: Places, frags: &[u8], matrix: &mut [u8])
     requires { length matrix.old ≡ 16384 }
     ensures { matrix.new ≡ pair_matrix masks.now keep frags.now }

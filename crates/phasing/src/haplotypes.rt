@@ -7,7 +7,7 @@ ghost use Rattle.phasing.specs.Algorithm.Haplotypes.{merged_line, side_codes};
 use masks::NO_LETTERS;
 use places::Line;
 
-// The lines of the fragments on side s, merged.
+// The lines of the fragments on side s, merged. Sides are the bytes 1 and 2, as they stand in an answer.
 fn merged(masks: &[Line; 128], sides: &[u8], s: u8) -> Line
     requires { length sides.now ≤ 128 }
     ensures { result ≡ merged_line masks.now sides.now s (length sides.now) }

@@ -122,7 +122,7 @@ impl Places {
     }
 }
 
-// The word with one bit more, above all its bits.
+// The word with one bit more, above all its bits, set or not.
 pub fn with_bit(word: u64, b: usize, on: bool) -> u64
     requires { (b < 64) × (word < 2 ^ b) }
     ensures { result ≡ bit on * 2 ^ b + word }

@@ -5,7 +5,7 @@ ghost use Rattle.records.specs.Rules.{precedes, is_out_of_order};
 
 use fields::{record_at, start, tag};
 
-// Whether a record with this start and tag comes before one with the others.
+// Whether a record with this start and tag comes before one with the others. Four numbers, since pack asks before there is a record.
 pub fn comes_before(start: usize, tag: u32, start2: usize, tag2: u32) -> bool
     ensures { result ≡ precedes start tag start2 tag2 }
 {

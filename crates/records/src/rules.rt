@@ -68,7 +68,7 @@ pub fn records_fault(n: usize, table: &[u8]) -> Result<usize, Refusal>
     first_fault(n, table, false)
 }
 
-// The records from 0, each by 4 to 9 and 13: the first fault, or the number of records.
+// The records from 0, each by 4 to 9 and 13: the first fault, or the number of records. Two functions by name, since callers mean one of two lists of rules.
 pub fn gapless_fault(n: usize, table: &[u8]) -> Result<usize, Refusal>
     ensures { outcome_of result ≡ decide (gapless_table_rules n table.now) (accepted (fragments table.now)) }
 {

@@ -8,7 +8,7 @@ ghost use Rattle.rewriting.specs.Algorithm.Letters.{OnSides, Room, Totals, with_
 
 use fields::is_call;
 
-// Adds a weight at each column where the row from a place on has the letter. A row is one run of bytes, so that the loop can take many columns at a time.
+// Adds a weight at each column where the row from a place on has the letter. Letters and sides are the bytes of cells and of side lists, which they are compared with. A row is one run of bytes, so that the loop can take many columns at a time.
 fn add_row(cells: &[u8], at: usize, weight: u8, letter: u8, totals: &mut [u16; 128])
     requires { (length cells.now ≡ 16384) × (at + 128 ≤ 16384) × Room totals.old }
     ensures { (totals.new ≡ tab 128 (with_row cells.now at weight letter totals.old)) × (weight ≤ 255) }

@@ -46,7 +46,7 @@ fn first_unmarked(marks: &[bool; 8]) -> usize
     8
 }
 
-// The lowest free slot at column c, and 8 where none is.
+// The lowest free slot at column c, and 8 where none is, as `free_by` has it.
 fn free_slot(m: usize, spans: &[Span; 128], slots: &[usize; 128], c: usize, turn: usize) -> usize
     requires { Spans m spans.now slots.now }
     ensures { result ≡ free_by m spans.now slots.now c turn }

@@ -23,7 +23,7 @@ impl Span {
     }
 }
 
-// The first column that fragment i calls, and n where it calls none.
+// The first column that fragment i calls, and n where it calls none: a number, so that the span of such a fragment is empty.
 fn start_of(n: usize, cells: &[u8], i: usize) -> usize
     ensures { (m : ℕ) → result ≡ first_column (matrix_grid m n cells.now) i }
 {
@@ -35,7 +35,7 @@ fn start_of(n: usize, cells: &[u8], i: usize) -> usize
     n
 }
 
-// One past the last column that fragment i calls, and 0 where it calls none.
+// One past the last column that fragment i calls, and 0 where it calls none: a number, for the same reason.
 fn end_of(n: usize, cells: &[u8], i: usize) -> usize
     ensures { (m : ℕ) → result ≡ end_column_of (matrix_grid m n cells.now) i }
 {

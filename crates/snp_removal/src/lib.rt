@@ -31,5 +31,5 @@ pub fn snp_keep_marks(m: usize, n: usize, masks: &[Line; 128], keep: &mut [u8]) 
     for (p, mark) in keep.iter_mut().enumerate() {
         *mark = 1 - least.digit(p);
     }
-    least.count as usize
+    least.count as usize // a cast, since usize has no From<u32>
 }

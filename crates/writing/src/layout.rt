@@ -30,7 +30,7 @@ fn cell_byte(calls: &[u8], b: usize) -> u8
     first + 4 * second + 16 * third + 64 * last
 }
 
-// The 8 bytes before the cells.
+// The 8 bytes before the cells. Casts, since the clauses say that start and span fit.
 fn header(tag: u32, grade: u8, start: usize, span: usize) -> [u8; HEADER_BYTES]
     requires { (start ≤ 128) × (span ≤ 96) }
     ensures { result ≡ bytes_of 4 tag ++ bytes_of 2 start ++ span ∷ grade ∷ [] }
