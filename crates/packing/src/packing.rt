@@ -54,124 +54,118 @@ fn out_of_order(tags: &[u32], i: usize, start: usize, last: usize) -> bool
     0 < i && comes_before(start, tags[i], last, tags[i - 1])
 }
 
-// The start that the record of fragment i would have.
-fn start_of(n: usize, cells: &[u8], i: usize) -> usize
-    requires { (n ≤ 128) × (i < 128) × (i * n + n ≤ length cells.now) }
-    ensures { result ≡ packed_start n cells.now i }
-{
-    let from = i * n;
-    calls_start(&cells[from..from + n])
-}
-
-// Fragment i by 6, 17, 4, 9 and 13, by its start and the last one: no row is looked through for its start twice.
-fn ungraded_fault(
+// Fragments to be packed, whose sizes keep 3, 1 and 2.
+#[derive(Clone, Copy)]
+pub(crate) struct Fragments<'a> {
     n: usize,
-    cells: &[u8],
-    tags: &[u32],
-    i: usize,
-    start: usize,
-    last: usize,
-) -> Result<(), Refusal>
-    requires n_bound { (n ≤ 128) × (i < 128) × (i * n + n ≤ length cells.now) }
-    requires i_in_bounds { i < length tags.now }
-    requires starts { Starts n cells.now i start last }
-    ensures { tested_of result ≡ decide (ungraded_rules n cells.now tags.now i) (accepted 0) }
-{
-    let from = i * n;
-    let row = &cells[from..from + n];
-    if any_unknown(row) {
-        return Err(Fault::UnknownCall.at(i));
-    }
-    let end = calls_end(row);
-    if end == 0 {
-        return Err(Fault::NoCall.at(i));
-    }
-    if 96 < end - start {
-        return Err(Fault::OutOfFrame.at(i));
-    }
-    if tag_before(tags, i) {
-        return Err(Fault::TagTwice.at(i));
-    }
-    if out_of_order(tags, i, start, last) {
-        return Err(Fault::OutOfOrder.at(i));
-    }
-    Ok(())
+    cells: &'a [u8],
+    tags: &'a [u32],
+    grades: &'a [u8],
+    ghost sized: { PackSized n cells.now tags.now grades.now },
 }
 
-// Fragment i by 5, and then by its cells and its tag.
-fn fragment_fault(
-    n: usize,
-    cells: &[u8],
-    tags: &[u32],
-    grades: &[u8],
-    i: usize,
-    start: usize,
-    last: usize,
-) -> Result<(), Refusal>
-    requires pack_sized { PackSized n cells.now tags.now grades.now }
-    requires i_in_bounds { i < length tags.now }
-    requires starts { Starts n cells.now i start last }
-    ensures { tested_of result ≡ decide (fragment_rules n cells.now tags.now grades.now i) (accepted 0) }
-{
-    if 15 < byte(grades, i) {
-        return Err(Fault::StrayBits.at(i));
+impl Fragments<'_> {
+    // The start that the record of fragment i would have.
+    fn start_of(self, i: usize) -> usize
+        requires { i < length self.tags.now }
+        ensures { result ≡ packed_start self.entry.n self.entry.cells.now i }
+    {
+        let from = i * self.n;
+        calls_start(&self.cells[from..from + self.n])
     }
-    ungraded_fault(n, cells, tags, i, start, last)
-}
 
-// The fragments from 0, each by 5, 6, 17, 4, 9 and 13: the first fault, or the number of tags. By index, which is a refusal's place.
-fn fragments_fault(n: usize, cells: &[u8], tags: &[u32], grades: &[u8]) -> Result<usize, Refusal>
-    requires { PackSized n cells.now tags.now grades.now }
-    ensures { outcome_of result ≡ decide (fragments_rules n cells.now tags.now grades.now) (accepted (length tags.now)) }
-{
-    let m = tags.len();
-    let mut last = 0;
-    for i in 0..m {
-        let start = start_of(n, cells, i);
-        fragment_fault(n, cells, tags, grades, i, start, last)?;
-        last = start;
+    // Fragment i by 6, 17, 4, 9 and 13, by its start and the last one: no row is looked through for its start twice.
+    fn ungraded_fault(self, i: usize, start: usize, last: usize) -> Result<(), Refusal>
+        requires i_in_bounds { i < length self.tags.now }
+        requires starts { Starts self.n self.cells.now i start last }
+        ensures { tested_of result ≡ decide (ungraded_rules self.entry.n self.entry.cells.now self.entry.tags.now i) (accepted 0) }
+    {
+        let tags = self.tags;
+        let from = i * self.n;
+        let row = &self.cells[from..from + self.n];
+        if any_unknown(row) {
+            return Err(Fault::UnknownCall.at(i));
+        }
+        let end = calls_end(row);
+        if end == 0 {
+            return Err(Fault::NoCall.at(i));
+        }
+        if 96 < end - start {
+            return Err(Fault::OutOfFrame.at(i));
+        }
+        if tag_before(tags, i) {
+            return Err(Fault::TagTwice.at(i));
+        }
+        if out_of_order(tags, i, start, last) {
+            return Err(Fault::OutOfOrder.at(i));
+        }
+        Ok(())
     }
-    Ok(m)
-}
 
-// Writes the record of each fragment into its own 32 bytes. By index, since three lists and the table are walked at once.
-fn fill_table(n: usize, cells: &[u8], tags: &[u32], grades: &[u8], table: &mut [u8])
-    requires pack_sized { PackSized n cells.now tags.now grades.now }
-    requires fragments_kept { FragmentsKept n cells.now tags.now grades.now }
-    requires table_len { length table.old ≡ 32 * length tags.now }
-    ensures { table.new ≡ packed n cells.now tags.now grades.now }
-{
-    // Where the row starts: a sum, so that no product can overflow.
-    let mut first = 0;
-    for i in 0..tags.len() {
-        let to = 32 * i;
-        write_record(
-            tags[i],
-            byte(grades, i),
-            &cells[first..first + n],
-            &mut table[to..to + 32],
-        );
-        first += n;
+    // Fragment i by 5, and then by its cells and its tag.
+    fn fragment_fault(self, i: usize, start: usize, last: usize) -> Result<(), Refusal>
+        requires i_in_bounds { i < length self.tags.now }
+        requires starts { Starts self.n self.cells.now i start last }
+        ensures { tested_of result ≡ decide (fragment_rules self.entry.n self.entry.cells.now self.entry.tags.now self.entry.grades.now i) (accepted 0) }
+    {
+        let grades = self.grades;
+        if 15 < byte(grades, i) {
+            return Err(Fault::StrayBits.at(i));
+        }
+        self.ungraded_fault(i, start, last)
+    }
+
+    // The fragments from 0, each by 5, 6, 17, 4, 9 and 13: the first fault, or the number of tags. By index, which is a refusal's place.
+    fn fragments_fault(self) -> Result<usize, Refusal>
+        ensures { outcome_of result ≡ decide (fragments_rules self.entry.n self.entry.cells.now self.entry.tags.now self.entry.grades.now) (accepted (length self.entry.tags.now)) }
+    {
+        let m = self.tags.len();
+        let mut last = 0;
+        for i in 0..m {
+            let start = self.start_of(i);
+            self.fragment_fault(i, start, last)?;
+            last = start;
+        }
+        Ok(m)
+    }
+
+    // Writes the record of each fragment into its own 32 bytes. By index, since three lists and the table are walked at once.
+    fn fill_table(self, table: &mut [u8])
+        requires fragments_kept { FragmentsKept self.n self.cells.now self.tags.now self.grades.now }
+        requires table_len { length table.old ≡ 32 * length self.tags.now }
+        ensures { table.new ≡ packed self.entry.n self.entry.cells.now self.entry.tags.now self.entry.grades.now }
+    {
+        let Fragments {
+            n,
+            cells,
+            tags,
+            grades,
+        } = self;
+        // Where the row starts: a sum, so that no product can overflow.
+        let mut first = 0;
+        for i in 0..tags.len() {
+            let to = 32 * i;
+            write_record(
+                tags[i],
+                byte(grades, i),
+                &cells[first..first + n],
+                &mut table[to..to + 32],
+            );
+            first += n;
+        }
     }
 }
 
 // Pack once the sizes are kept: the table's length, then the fragments.
-fn pack_sized(
-    n: usize,
-    cells: &[u8],
-    tags: &[u32],
-    grades: &[u8],
-    table: &mut [u8],
-) -> Result<usize, Refusal>
-    requires { PackSized n cells.now tags.now grades.now }
-    ensures outcome { outcome_of result ≡ (pack_leaves n cells.now tags.now grades.now table.old).outcome }
-    ensures table { table.new ≡ (pack_leaves n cells.now tags.now grades.now table.old).table }
+fn pack_sized(fragments: Fragments<'_>, table: &mut [u8]) -> Result<usize, Refusal>
+    ensures outcome { outcome_of result ≡ (pack_leaves fragments.entry.n fragments.entry.cells.now fragments.entry.tags.now fragments.entry.grades.now table.old).outcome }
+    ensures table { table.new ≡ (pack_leaves fragments.entry.n fragments.entry.cells.now fragments.entry.tags.now fragments.entry.grades.now table.old).table }
 {
-    if table.len() != 32 * tags.len() {
+    if table.len() != 32 * fragments.tags.len() {
         return Err(Fault::WrongBuffer.at(0));
     }
-    let m = fragments_fault(n, cells, tags, grades)?;
-    fill_table(n, cells, tags, grades, table);
+    let m = fragments.fragments_fault()?;
+    fragments.fill_table(table);
     Ok(m)
 }
 
@@ -187,5 +181,11 @@ pub fn pack(
     ensures table { table.new ≡ (pack_leaves n cells.now tags.now grades.now table.old).table }
 {
     pack_size_fault(n, cells, tags, grades)?;
-    pack_sized(n, cells, tags, grades, table)
+    let fragments = Fragments {
+        n,
+        cells,
+        tags,
+        grades,
+    };
+    pack_sized(fragments, table)
 }

@@ -1,4 +1,4 @@
--- `packing::fragments_fault` meets its contract. The loop's invariant: the verdict is that of the fragments from i on.
+-- `packing::Fragments::fragments_fault` meets its contract. The loop's invariant: the verdict is that of the fragments from i on.
 use mathlib.Core.Path.{◌≡◌, refl, sym, ap, ◌∙◌}
 use Prim.Native.Nat.{ℕ, ◌+◌, ◌-◌}
 use native.Mathlib.Omega.{arith}
@@ -8,8 +8,7 @@ use Rattle.records.proofs.RuleLaws.{rows-begin, rows_end, row_kept, row-broken}
 use Rattle.records.specs.Outcome.{accepted}
 use Rattle.conflicts.specs.Services.{packed_start}
 use Rattle.packing.specs.Algorithm.Sizes.{fragments_rules}
-use Rattle.packing.proofs.SizeLaws.{pack-n, pack-m, pack-row}
-use Rattle.packing.proofs.packing.fragments_fault.Goals as goal
+use Rattle.packing.proofs.packing.Fragments.fragments_fault.Goals as goal
 
 one_less : (i : ℕ) → i + 1 - 1 ≡ i
 one_less i = omega arith
@@ -19,15 +18,11 @@ unfolding fragments_rules
 loop-i-init c = (refl, λ h. absurd (omega arith), rows-begin _ _ _)
 
 pub start_of-start-requires : goal.start_of-start-requires
-start_of-start-requires c =
-    let sized = c.requires in
-    let few = pack-m sized in
-    let e = c.loop-i.invariant.0 in
-    (pack-n sized, omega arith, pack-row sized c.loop-i.i (omega arith))
+start_of-start-requires c = let e = c.loop-i.invariant.0 in omega arith
 
 pub fragment_fault-requires : goal.fragment_fault-requires
 fragment_fault-requires c =
-    record { pack_sized = c.requires; i_in_bounds = search rules; starts = record { here = c.start_of-start.ensures; before = c.loop-i.invariant.1 } }
+    record { i_in_bounds = search rules; starts = record { here = c.start_of-start.ensures; before = c.loop-i.invariant.1 } }
 
 pub returns-in_err-fragment_fault : goal.returns-in_err-fragment_fault
 returns-in_err-fragment_fault c =

@@ -1,25 +1,16 @@
--- `packing::fragment_fault` meets its contract.
+-- `packing::Fragments::fragment_fault` meets its contract.
 -- Assumes nothing.
 use mathlib.Core.Path.{sym, ap, ◌∙◌}
 use Prim.Native.Nat.{ℕ}
-use native.Mathlib.Omega.{arith}
 use Rattle.records.proofs.RuleLaws.{rule-broken, rule-kept}
 use Rattle.below.specs.Below.{◌<?◌}
 use Rattle.below.proofs.SearchLaws.{<?-true, <?-false}
 use Rattle.conflicts.specs.Services.{fragment_rules}
-use Rattle.packing.proofs.SizeLaws.{pack-n, pack-m, pack-row}
-use Rattle.packing.proofs.packing.fragment_fault.Goals as goal
+use Rattle.packing.proofs.packing.Fragments.fragment_fault.Goals as goal
 
 pub returns-then-byte-gt15 : goal.returns-then-byte-gt15
 unfolding fragment_rules
 returns-then-byte-gt15 c = rw c.at.ensures (sym (rule-broken _ _ _ (ap (λ (g : ℕ). 15 <? g) (sym c.byte.ensures) ∙ <?-true _ _ c.if-byte-gt15.true)))
-
-pub ungraded_fault-requires : goal.ungraded_fault-requires
-ungraded_fault-requires c =
-    let sized = c.requires.pack_sized in
-    let few = pack-m sized in
-    let h = c.requires.i_in_bounds in
-    record { n_bound = (pack-n sized, omega arith, pack-row sized _ h); i_in_bounds = h; starts = c.requires.starts }
 
 pub returns : goal.returns
 unfolding fragment_rules
