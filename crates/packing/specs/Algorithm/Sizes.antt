@@ -1,9 +1,9 @@
--- What pack knows once the sizes of its input are kept, and once its fragments are kept too; whether a verdict refuses.
+-- What pack knows once the sizes of its input are kept, and once its fragments are kept too.
 -- Assumes nothing.
-use Rattle.std.specs.Prelude.{◌≡◌, Bool, true, false, List, ℕ, ◌-◌, ◌<◌, length}
+use Rattle.std.specs.Prelude.{◌≡◌, List, ℕ, ◌-◌, ◌<◌, length}
 use Rattle.below.specs.Below.{tab, concat}
 use Rattle.records.specs.Rules.{Rule, decide}
-use Rattle.records.specs.Outcome.{Verdict, accepted, refused}
+use Rattle.records.specs.Outcome.{accepted}
 use Rattle.conflicts.specs.Services.{pack_size_rules, packed_start, fragment_rules}
 
 -- rules 3, 1 and 2 are kept by cells, tags and grades that are to be packed
@@ -22,8 +22,3 @@ pub record FragmentsKept (n : ℕ) (cells tags grades : List ℕ) : Type 0 where
 pub record Starts (n : ℕ) (cells : List ℕ) (i start last : ℕ) : Type 0 where
   pub here : start ≡ packed_start n cells i
   pub before : 0 < i → last ≡ packed_start n cells (i - 1)
-
--- a verdict is a refusal
-unfoldable pub refuses : Verdict → Bool
-refuses (accepted count) = false
-refuses (refused number place) = true
