@@ -12,7 +12,7 @@ use lib.Arith.{digits_lt}
 use Rattle.std.proofs.lemmas.Nat.{and-not}
 use lib.Bits.{and_comm, bit_and, bit_or, and_block, or_block, or_add_and, and_le_l, and_le_r}
 use lib.Count.{ones, ones_cat}
-use lib.Pow.{pow_pos, shl_exact}
+use lib.Pow.{pow_pos, pow_mono, shl_exact}
 use borrow.Author.Tests.{ne_eqb}
 use Rattle.below.specs.Below.{bit, ◌<?◌, ◌and◌, ◌or◌, any_below, sum_below, count_below}
 use Rattle.below.proofs.SearchLaws.{<?-true, <?-false}
@@ -55,6 +55,16 @@ word_none w q none = word-wider 0 w q q (omega arith) (λ b l. refl) (λ b l u. 
 
 pub shl_one : (b : ℕ) → b < 64 → 1 * 2 ^ b % 2 ^ 64 ≡ 1 * 2 ^ b
 shl_one b h = shl_exact {a = 1} 1 b 64 (omega arith) (omega arith)
+
+-- a bit above the others fits
+pub bit-fits : (b : ℕ) {word : ℕ} → b < 64 → word < 2 ^ b → 1 * 2 ^ b % 2 ^ 64 + word < 2 ^ 64
+bit-fits b h l = rw (shl_one b h) (omega (arith, pow-suc 2 b, pow_mono {i = suc b} {j = 64} (omega arith)))
+
+pub bit-on : (b word : ℕ) (on : Bool) → b < 64 → on ≡ true → 1 * 2 ^ b % 2 ^ 64 + word ≡ bit on * 2 ^ b + word
+bit-on b word on h e = rw (shl_one b h, e)
+
+pub bit-off : (b word : ℕ) (on : Bool) → on ≡ false → word ≡ bit on * 2 ^ b + word
+bit-off b word on e = rw e (omega arith)
 
 pub word_below : (b : ℕ) (p : ℕ → Bool) {word : ℕ} → word ≡ word_of b p → word < 2 ^ b
 word_below b p e = rw e (word_lt b p)

@@ -1,25 +1,13 @@
 -- `places::with_bit` meets its contract.
 -- Assumes nothing.
-use mathlib.Core.Path.{◌≡◌, refl, ap, ◌∙◌}
-use mathlib.Core.Bool.{Bool, true, false}
-use Prim.Native.Nat.{ℕ, ◌+◌, ◌*◌, ◌^◌}
-use native.Mathlib.Omega.{arith}
-use mir.Val.{bool_byte}
-use Rattle.below.specs.Below.{bit}
-use Rattle.places.proofs.WordLaws.{bit-lt}
-use Rattle.places.proofs.ShiftLaws.{few-fit}
+use Rattle.places.proofs.WordLaws.{bit-fits, bit-on, bit-off}
 use Rattle.places.proofs.places.with_bit.Goals as goal
 
-byte-is : (on : Bool) → bool_byte on ≡ bit on
-byte-is true = refl
-byte-is false = refl
+pub overflow_add-result : goal.overflow_add-result
+overflow_add-result c = record { fits = bit-fits c.args.b c.requires.0 c.requires.1 }
 
-pub with_digits-requires : goal.with_digits-requires
-with_digits-requires c =
-    let a = c.args in
-    let p = c.requires in
-    let e = c.from.ensures ∙ byte-is a.on in
-    (p.0, p.1, few-fit 1 a.b (omega arith) (omega (arith, bit-lt a.on)))
+pub returns-then-on : goal.returns-then-on
+returns-then-on c = bit-on c.args.b c.args.word c.args.on c.requires.0 c.if-on.true
 
-pub returns : goal.returns
-returns c = let a = c.args in c.with_digits.ensures ∙ ap (λ (x : ℕ). x * 2 ^ a.b + a.word) (c.from.ensures ∙ byte-is a.on)
+pub returns-else-on : goal.returns-else-on
+returns-else-on c = bit-off c.args.b c.args.word c.args.on c.if-on.false
