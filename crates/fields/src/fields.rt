@@ -16,11 +16,11 @@ pub const A: u8 = 1;
 
 pub const B: u8 = 2;
 
-// Byte i, or 0 past the end. A test and not `get`, which takes half as long again in find.
+// Byte i, or 0 past the end.
 pub fn byte(part: &[u8], i: usize) -> u8
     ensures { result ≡ get_or part.now i 0 }
 {
-    if i < part.len() { part[i] } else { 0 }
+    part.get(i).copied().unwrap_or(0)
 }
 
 // The tag: bytes 0 to 3, little-endian.
