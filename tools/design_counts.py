@@ -12,10 +12,9 @@ import subprocess
 import sys
 
 LOOP = re.compile(r"^\s*(while|loop)\b")
-PARAMETERS = re.compile(r"\bfn (\w+)(?:<[^>]*>)?\(([^)]*)\)", re.S)
+PARAMETERS = re.compile(r"\bfn (\w+)(?:<[^>]*>)?\(([^)]*)\)(?: -> ([^\n{]*))?", re.S)
 # By hand, what the library or a derive has: the name of a helper says which.
-BY_HAND = re.compile(r"\bfn (lesser|smaller|larger|greater|precedes|equal|wide|one_more|clear|clear_row|copy|comes_before|tag_byte|frame_byte|header_byte"
-                     r"|is_refusal|host_number|lesser_if|put_number)\b")
+BY_HAND = re.compile(r"\bfn (greater|precedes|one_more|copy|comes_before|tag_byte|frame_byte|header_byte|is_refusal|host_number|lesser_if|turn_over|put_number)\b")
 WIDENED = re.compile(r"\bas (u16|u32|u64|usize)\b")
 CHOICE = re.compile(r"\bfn (share|price|weight_if|letter_call|letter_of|covers_column|own_label|own_side)\b")
 GROUPS = {
@@ -54,7 +53,7 @@ def signatures(texts):
     for name, text in texts.items():
         for match in PARAMETERS.finditer(re.sub(r"//[^\n]*", "", text)):
             parameters = [p.split(":")[0].strip().removeprefix("mut ") for p in match[2].split(",") if ":" in p]
-            yield name, match[1], parameters, match[2]
+            yield name, match[1], parameters, match[2] + " -> " + (match[3] or "()")
 
 
 def facts(texts):
@@ -75,16 +74,18 @@ def places(texts):
     result["1 a flag with a value beside it"] = list(lines(texts, re.compile(r"\bwhole: bool\b")))
     result["1 numbers for kinds, in parameters"] = [f"{n}: {f}({p})" for n, f, ps, text in signatures(texts) for p in ps
                                                     if p in ("letter", "number", "side", "s", "code") and re.search(rf"\b{p}: u8\b", text)]
-    result["1 numbers that stand for none"] = [f"{n}: {f}" for n, f, _, _ in signatures(texts)
-                                               if f in ("position_of", "first_deep", "first_unmarked", "free_slot", "start_of", "end_of", "calls_start", "calls_end", "lowest", "end", "line_start", "line_end")]
+    result["1 numbers that stand for none"] = [f"{n}: {f}" for n, f, _, text in signatures(texts)
+                                               if "-> Option" not in text and f in ("position_of", "first_deep", "first_unmarked", "free_slot", "start_of", "end_of", "calls_start", "calls_end", "lowest", "end", "line_start", "line_end")]
     result["2 functions of one choice"] = list(lines(texts, CHOICE))
-    result["2 twins"] = list(lines(texts, re.compile(r"\bfn (decode|fill_tags|fill_grades|records_fault|gapless_fault|row_joined|row_apart|lesser|smaller|clear|clear_row|start_of|end_of|calls_start|calls_end|fill_row|fill_columns)\b"
-                                                     r"|\bstruct (Words|Letters)\b")))
+    result["2 twins"] = list(lines(texts, re.compile(r"\bfn (decode|fill_tags|fill_grades|records_fault|gapless_fault|row_joined|row_apart|lesser|smaller|larger|clear|clear_row|put_column_fields"
+                                                     r"|put_fragment_fields|blank_answer|blank_work|blank_table|wide|equal)\b|\bstruct (Words|Letters)\b")))
     result["3 loops that are no for"] = list(lines(texts, LOOP))
     result["4 by hand"] = list(lines(texts, BY_HAND))
     result["4 widened by as"] = list(lines(texts, WIDENED))
     for group, names in GROUPS.items():
-        result[f"5, 6 parameters {group}"] = [f"{n}: {f}" for n, f, ps, _ in signatures(texts) if all(name in ps for name in names)]
+        # two lines that are compared are no group
+        result[f"5 parameters {group}"] = [f"{n}: {f}" for n, f, ps, _ in signatures(texts)
+                                           if all(name in ps for name in names) and not ("/places/" in n and group == "first, second")]
     result["5 facts in three contracts or more"] = [f"{len(who)} {fact}" for fact, who in sorted(facts(texts).items(), key=lambda i: -len(i[1]))]
     result["6 masks as words"] = [f"{n}: {f}" for n, f, ps, text in signatures(texts) if re.search(r"\[u64; 512\]|\b(masks|columns): &(mut )?\[u64\]", text)]
     result["7 switches"] = [f"{n}: {f}({p})" for n, f, ps, text in signatures(texts) for p in ps if re.search(rf"\b{p}: bool\b", text)]

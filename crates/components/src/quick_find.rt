@@ -45,7 +45,7 @@ fn new_side(x: u8, hi: u8, turn: bool, side: u8) -> u8
     }
 }
 
-// Takes the component hi into lo, its sides turned over or not.
+// Takes the component hi into lo, its sides turned over or not. A flag, since the loop asks it of each place and writes it whatever it is.
 fn relabel(sides: &mut [u8], labels: &mut [u8], lo: u8, hi: u8, turn: bool)
     requires { length sides.old ≡ length labels.old }
     ensures { Joined (length labels.old) lo hi turn (nth labels.old) (nth sides.old) (nth labels.new) (nth sides.new) }

@@ -9,7 +9,7 @@ use crate::columns::Columns;
 use patterns::{charge, enter};
 use ranks::table::Ranks;
 
-// What a correction costs where a call is the letter, and 0 where it is not. A letter is its code, as the cells have it.
+// What a correction costs where a call is the letter, and 0 where it is not. A letter is its code, as the cells have it. A function, since it is asked for twice.
 fn price(code: u8, letter: u8, weight: u8) -> u8
     ensures { result ≡ if code =? letter then weight else 0 }
 {

@@ -21,7 +21,7 @@ fn is_product(len: usize, m: usize, n: usize) -> bool
     len % n == 0 && len / n == m
 }
 
-// The sizes by 3, 1, 2: the first fault, or the number of tags.
+// The sizes by 3, 1, 2: the first fault, or the number of tags. The four stand alone, since only these rules make them `Fragments`.
 fn pack_size_fault(n: usize, cells: &[u8], tags: &[u32], grades: &[u8]) -> Result<usize, Refusal>
     ensures { outcome_of result ≡ decide (pack_size_rules n cells.now tags.now grades.now) (accepted (length tags.now)) }
 {
@@ -65,7 +65,7 @@ pub(crate) struct Fragments<'a> {
 }
 
 impl Fragments<'_> {
-    // The start that the record of fragment i would have.
+    // The start that the record of fragment i would have: 0 without calls, as `packed_start` has it.
     fn start_of(self, i: usize) -> usize
         requires { i < length self.tags.now }
         ensures { result ≡ packed_start self.entry.n self.entry.cells.now i }

@@ -7,7 +7,7 @@ ghost use Rattle.conflicts.specs.Services.{unpack_leaves};
 use fields::{fill_row, grade, record_at, tag};
 use records::{Fault, Refusal, SizedTable};
 
-// Writes the row of n cells, the tag and the grade of each record. By index, since three buffers and the table are walked at once.
+// Writes the row of n cells, the tag and the grade of each record. The three buffers are the caller's, and stand alone as it lends them. By index, since three buffers and the table are walked at once.
 fn fill(n: usize, table: &[u8], cells: &mut [u8], tags: &mut [u32], grades: &mut [u8])
     requires cells_len { length cells.old ≡ fragments table.now * n }
     requires tags_len { length tags.old ≡ fragments table.now }

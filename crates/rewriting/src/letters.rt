@@ -94,7 +94,7 @@ fn correct_row(n: usize, cells: &[u8], at: usize, letters: &[u8; 128], row: &mut
     }
 }
 
-// Writes row i of the matrix after correction: a fragment's, or an empty one past the fragments.
+// Writes row i of the matrix after correction: a fragment's, or an empty one past the fragments. The letters of the two sides stand alone: this and its caller alone take both.
 fn fill_row(
     m: usize,
     n: usize,
