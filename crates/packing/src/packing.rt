@@ -57,10 +57,10 @@ fn out_of_order(tags: &[u32], i: usize, start: usize, last: usize) -> bool
 // Fragments to be packed, whose sizes keep 3, 1 and 2.
 #[derive(Clone, Copy)]
 pub(crate) struct Fragments<'a> {
-    n: usize,
-    cells: &'a [u8],
-    tags: &'a [u32],
-    grades: &'a [u8],
+    pub(crate) n: usize,
+    pub(crate) cells: &'a [u8],
+    pub(crate) tags: &'a [u32],
+    pub(crate) grades: &'a [u8],
     ghost sized: { PackSized n cells.now tags.now grades.now },
 }
 
