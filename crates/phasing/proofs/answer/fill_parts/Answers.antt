@@ -12,18 +12,18 @@ pub slice_bounds-fill_columns-end : goal.slice_bounds-fill_columns-end
 unfolding answer_size
 slice_bounds-fill_columns-end c = search rules
 
-pub slice_bounds-copy_from_slice-end : goal.slice_bounds-copy_from_slice-end
+pub slice_bounds-copy-end : goal.slice_bounds-copy-end
 unfolding answer_size
-slice_bounds-copy_from_slice-end c = search rules
+slice_bounds-copy-end c = search rules
 
-pub copy_from_slice-requires-2 : goal.copy_from_slice-requires-2
+pub copy-requires-2 : goal.copy-requires-2
 unfolding answer_size
-copy_from_slice-requires-2 c = search rules
+copy-requires-2 c = search rules
 
 pub returns : goal.returns
 unfolding sections
 returns c =
     let a = c.args in
     let n3 = length a.cols.now * 3 in
-    three-fill a.bytes.now c.fill_columns.ensures c.copy_from_slice.ensures.after n3 (search rules)
-    c.copy_from_slice-2.ensures.after (n3 + length a.sides.now) (search rules)
+    three-fill a.bytes.now c.fill_columns.ensures c.copy.ensures n3 (search rules)
+    c.copy-2.ensures (n3 + length a.sides.now) (search rules)
