@@ -1,5 +1,6 @@
 -- The lines of two columns say whether the columns are in conflict.
 -- Assumes nothing.
+use Rattle.std.specs.Prelude.{if◌then◌else◌}
 use mathlib.Core.Path.{◌≡◌, refl, sym, ap, ap₂, ◌∙◌}
 use mathlib.Core.Bool.{Bool, true, false, not}
 use mathlib.Core.List.{List}
@@ -7,10 +8,11 @@ use mathlib.Core.Logic.{◌⊎◌, inl, inr}
 use Prim.Native.Nat.{ℕ, zero, suc, ◌-◌, ◌≤◌, ◌<◌}
 use native.Mathlib.Omega.{arith}
 use lib.Dec.{T}
-use Rattle.below.specs.Below.{◌=?◌, ◌and◌, ◌or◌, isnt, any_below}
+use Rattle.below.specs.Below.{◌=?◌, ◌<?◌, ◌and◌, ◌or◌, isnt, any_below}
 use Rattle.fields.specs.Record.{is_call_code}
 use Rattle.below.proofs.BelowLaws.{both, left-of, right_of, or_left, or_right, or_cases, same_test, =?-eq, =?-refl, eq-=?, isnt-=?, ne-isnt, any-ext}
 use Rattle.conflicts.specs.Grid.{Grid, calls_conflict, mixed}
+use Rattle.conflicts.specs.Tally.{no_calls, one_more_of, tallied, mixed_tally}
 use Rattle.places.specs.declared.places.Places.{Places}
 use Rattle.places.specs.declared.lines.Line.{Line}
 use Rattle.places.specs.Algorithm.Places.{places_where, occupied, conflict_places, agree_places, both_kinds}
@@ -86,13 +88,18 @@ words-mixed g lines c masks h = ap₂ ◌and◌ (one 1 (λ l. l.a) refl) (one 2 
     one : (letter : ℕ) (part : Line → Places) → part (line_of (transposed g) c) ≡ places_where (has_letter (transposed g) letter c) → occupied (part (line_at lines c)) ≡ any_below g.m (λ i. g.cell i c =? letter)
     one letter part e = ap (λ (l : Line). occupied (part l)) (line-at (transposed g) c masks h) ∙ ap occupied (e ∙ letter-places (transposed g) letter c h) ∙ occupied-below g.m _ masks.narrow
 
-pub mixed-none : (lines : List Line) (c : ℕ) {a : Bool} → a ≡ occupied (line_at lines c).a → a ≡ false → a ≡ words_mixed lines c
-unfolding words_mixed ◌and◌
-mixed-none lines c e f = f ∙ rw (← e, f)
+-- a tally of one call of each letter that occurs
+letters-tally : (a b : Bool) → mixed_tally (tallied (tallied no_calls (if a then 1 else 0)) (if b then 2 else 0)) ≡ (a and b)
+unfolding mixed_tally tallied one_more_of ◌and◌ ◌=?◌ ◌<?◌
+letters-tally true true = refl
+letters-tally true false = refl
+letters-tally false true = refl
+letters-tally false false = refl
 
-pub mixed-some : (lines : List Line) (c : ℕ) {a b : Bool} → a ≡ occupied (line_at lines c).a → a ≡ true → b ≡ occupied (line_at lines c).b → b ≡ words_mixed lines c
-unfolding words_mixed ◌and◌
-mixed-some lines c e t eb = rw (← e, t, eb)
+pub tally-is : (lines : List Line) (c : ℕ) {a b : Bool} {x y : ℕ} → a ≡ occupied (line_at lines c).a → b ≡ occupied (line_at lines c).b → x ≡ (if a then 1 else 0) → y ≡ (if b then 2 else 0)
+    → mixed_tally (tallied (tallied no_calls x) y) ≡ words_mixed lines c
+unfolding words_mixed
+tally-is lines c {a} {b} ea eb ex ey = rw (ex, ey) (letters-tally a b ∙ ap₂ ◌and◌ ea eb)
 
 pub mixed-is : (g : Grid) (lines : List Line) (c : ℕ) {r : Bool} → Masks (transposed g) lines → c < g.n → r ≡ words_mixed lines c → mixed g c ≡ r
 mixed-is g lines c masks h e = sym (e ∙ words-mixed g lines c masks h)
