@@ -91,8 +91,7 @@ impl<'a> Fragments<'a> {
         let mut highs = [0u64; PLACES];
         let mut lows = [0u64; PLACES];
         work.fill(0);
-        let counts = work.first_chunk_mut().unwrap();
-        let mut table = Ranks::new(counts, &mut highs, &mut lows);
+        let mut table = Ranks::first_of(work, &mut highs, &mut lows);
         self.suffixes(&mut table);
         let most = table.get(0);
         for (p, mark) in keep.iter_mut().enumerate() {

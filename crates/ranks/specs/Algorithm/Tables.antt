@@ -1,6 +1,7 @@
 -- Tables of weights in three parallel lists, and loops that go through a table in place.
 -- Assumes nothing.
-use Rattle.std.specs.Prelude.{◌≡◌, List, ℕ, ◌+◌, ◌*◌, ◌^◌, ◌≤◌, ◌<◌, length, get_or}
+use Rattle.std.specs.Prelude.{◌≡◌, List, ℕ, ◌+◌, ◌*◌, ◌^◌, ◌≤◌, ◌<◌, length, get_or, set}
+use Rattle.ranks.specs.declared.rank.Rank.{Rank}
 use Rattle.ranks.specs.Algorithm.Weight.{top}
 use Rattle.below.specs.Below.{tab}
 
@@ -19,11 +20,23 @@ pub record Parallel (n : ℕ) (counts highs lows : List ℕ) : Type 0 where
   pub lows_size : length lows ≡ n
   pub few : n < 2 ^ 32
 
+-- the lists have n places each, or more
+pub record Long (n : ℕ) (counts highs lows : List ℕ) : Type 0 where
+  pub counts_long : n ≤ length counts
+  pub highs_long : n ≤ length highs
+  pub lows_long : n ≤ length lows
+
 -- place j is one of the table's
 pub record Inside (counts highs lows : List ℕ) (j : ℕ) : Type 0 where
   pub in_counts : j < length counts
   pub in_highs : j < length highs
   pub in_lows : j < length lows
+
+-- the table after a weight is put at place j
+pub record Stored (counts highs lows counts' highs' lows' : List ℕ) (j : ℕ) (r : Rank) : Type 0 where
+  pub counts_are : counts' ≡ set counts j r.count
+  pub highs_are : highs' ≡ set highs j r.high
+  pub lows_are : lows' ≡ set lows j r.low
 
 -- one place of a table has the value v, and the others are as they were
 pub record Put (old new : ℕ → ℕ) (j v : ℕ) : Type 0 where

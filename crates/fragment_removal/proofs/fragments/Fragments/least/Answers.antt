@@ -21,8 +21,7 @@ use Rattle.fragment_removal.proofs.fragments.Fragments.least.Goals.{After-get-mo
 pub suffixes-requires : goal.suffixes-requires
 suffixes-requires c =
     let zero : c.fill.new.self ≡ replicate (length c.args.work.now) 0 = search rules in
-    let first : c.unwrap-counts.result.now ≡ take 8385 c.fill.new.self = search rules in
-    holds-none _ _ _ (zeros-pairs (omega arith) zero first c.new-table.ensures)
+    holds-none _ _ _ (zeros-pairs (omega arith) zero c.first_of-table.ensures)
 
 -- what the weight of the first states says
 marks : (c : After-get-most) →
