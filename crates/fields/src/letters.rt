@@ -14,7 +14,8 @@ const TWOS: [u8; 16] = [0, 1, 16, 17, 2, 3, 18, 19, 32, 33, 48, 49, 34, 35, 50, 
 fn fours(codes: u8) -> u8
     ensures { result ≡ fours_of codes }
 {
-    TWOS[usize::from(codes % 16)] + 4 * TWOS[usize::from(codes / 16)]
+    let codes = usize::from(codes);
+    TWOS[codes % 16] + 4 * TWOS[codes / 16]
 }
 
 // The letters of the cells of some bytes: a word of the bits for A, and one of those for B.

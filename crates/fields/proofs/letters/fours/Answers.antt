@@ -14,12 +14,12 @@ total h k = omega arith
 
 pub overflow_mul-result : goal.overflow_mul-result
 unfolding twos
-overflow_mul-result c = rw c.from-2.ensures (record { fits = product (fours-at c.args.codes (search rules)).1 })
+overflow_mul-result c = rw c.from-codes.ensures (record { fits = product (fours-at c.args.codes (search rules)).1 })
 
 pub overflow_add-result : goal.overflow_add-result
 unfolding twos
-overflow_add-result c = rw (c.from.ensures, c.from-2.ensures) (record { fits = let r = fours-at c.args.codes (search rules) in total r.2 r.1 })
+overflow_add-result c = rw c.from-codes.ensures (record { fits = let r = fours-at c.args.codes (search rules) in total r.2 r.1 })
 
 pub returns : goal.returns
 unfolding twos
-returns c = rw (c.from.ensures, c.from-2.ensures) (fours-at c.args.codes (search rules)).0
+returns c = rw c.from-codes.ensures (fours-at c.args.codes (search rules)).0
