@@ -67,10 +67,10 @@ says-no b = record { yes = λ e. absurd (false-T (sym e) tt); no = λ e. b }
 =?-swap a b = same_test (a =? b) (b =? a) (λ t. rw (=?-eq a b t) (=?-refl b)) (λ t. rw (=?-eq b a t) (=?-refl a))
 
 module _ {m i j : ℕ} (few : m ≤ 128) (hij : i < j) (hj : j < m) {l s : ℕ → ℕ} (turn : Bool) (equal : turn ≡ (s i =? s j)) where
-  step-up : {l' s' : ℕ → ℕ} → l i < l j → Joined m (l i) (l j) turn l s l' s' → Step m i j true l s l' s'
+  pub step-up : {l' s' : ℕ → ℕ} → l i < l j → Joined m (l i) (l j) turn l s l' s' → Step m i j true l s l' s'
   step-up lower joins = record { on = λ kept pair links t st. says-yes (join m few kept pair links hij hj t st (inl (refl, refl)) lower equal joins) }
 
-  step_down : {l' s' : ℕ → ℕ} → l j < l i → Joined m (l j) (l i) turn l s l' s' → Step m i j true l s l' s'
+  pub step_down : {l' s' : ℕ → ℕ} → l j < l i → Joined m (l j) (l i) turn l s l' s' → Step m i j true l s l' s'
   step_down lower joins = record { on = λ kept pair links t st. says-yes (join m few kept pair links hij hj t st (inr (refl, refl)) lower (equal ∙ =?-swap (s i) (s j)) joins) }
 
   -- two components: that of the higher label is taken in

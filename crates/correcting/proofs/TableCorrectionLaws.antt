@@ -1,6 +1,6 @@
 -- C over the cell matrix is C over the table's bytes; what C returns and leaves.
 -- Assumes nothing.
-use mathlib.Core.Path.{◌≡◌, sym, ap, ap₂, subst, ◌∙◌}
+use mathlib.Core.Path.{◌≡◌, refl, sym, ap, ap₂, subst, ◌∙◌}
 use mathlib.Core.List.{List}
 use Prim.Native.Nat.{ℕ, ◌+◌, ◌*◌, ◌≤◌, ◌<◌}
 use native.Mathlib.Nat.{lt_of_lt_of_le}
@@ -162,14 +162,14 @@ module _ {n m : ℕ} {table cells : List ℕ} (sized : SizesKept n m table) (kep
     whole = grid-corrected n table (whole-records n table _ _ sized.kept)
 
     -- they are lawful in C's table
-    sides-lawful : (cols : List ℕ) → LawfulSides 2 (grid_of n (corrected_table n table)) (marked cols) (marked sides) (nth sides)
+    pub sides-lawful : (cols : List ℕ) → LawfulSides 2 (grid_of n (corrected_table n table)) (marked cols) (marked sides) (nth sides)
     unfolding corrected_grid
     sides-lawful cols = subst (λ (h : Grid). LawfulSides 2 h (marked cols) (marked sides) (nth sides)) (sym whole) (subst (λ (s : List ℕ). LawfulSides 2 (corrected_grid (grid_of n table)) (marked cols) (marked s) (nth s)) (sym sides_are) (least-lawful (grid_of n table) cols))
 
     -- C's answer
-    table-correction : {after : List ℕ} → after ≡ answer (grid_of n (corrected_table n table)) (keep_all n) sides → after ≡ correction_answer (grid_of n table)
+    pub table-correction : {cols after : List ℕ} → cols ≡ keep_all n → after ≡ answer (grid_of n (corrected_table n table)) cols sides → after ≡ correction_answer (grid_of n table)
     unfolding correction_answer grid_of
-    table-correction e = e ∙ ap (λ (h : Grid). answer h (keep_all n) sides) whole ∙ ap (answer (corrected_grid (grid_of n table)) (keep_all n)) sides_are
+    table-correction {cols} all e = e ∙ ap (λ (h : Grid). answer h cols sides) whole ∙ ap₂ (answer (corrected_grid (grid_of n table))) all sides_are
 
     -- a corrected cell, read from the bytes
     fixed-code : (i c : ℕ) → i < fragments table → c < n → get_or fixed (i * 128 + c) 0 ≡ (corrected_grid (grid_of n table)).cell i c
@@ -192,7 +192,7 @@ module _ {n m : ℕ} {table cells : List ℕ} (sized : SizesKept n m table) (kep
         → (LetteredTable n records → length sides ≡ fragments records → LawfulSides 2 (grid_of n records) (marked (keep_all n)) (marked sides) (nth sides) → after ≡ answer (grid_of n records) (keep_all n) sides)
         → after ≡ correction_answer (grid_of n table)
     table-answered {records} {after} e answered =
-        table-correction (subst (λ (t : List ℕ). LetteredTable n t → length sides ≡ fragments t → LawfulSides 2 (grid_of n t) (marked (keep_all n)) (marked sides) (nth sides) → after ≡ answer (grid_of n t) (keep_all n) sides) e answered
+        table-correction refl (subst (λ (t : List ℕ). LetteredTable n t → length sides ≡ fragments t → LawfulSides 2 (grid_of n t) (marked (keep_all n)) (marked sides) (nth sides) → after ≡ answer (grid_of n t) (keep_all n) sides) e answered
         (corrected-letters kept) (sides-size ∙ sym (fragments-of (corrected_table n table) (fragments table) (length-corrected n table) ∙ sized-count sized)) (sides-lawful (keep_all n)))
 
 -- ---- what C returns and leaves

@@ -29,7 +29,7 @@ module _ (g : Grid) (slots : List ℕ) (c letter : ℕ) where
   gathered_none prices size z = record { size = size; price = λ b lt. z b }
 
   -- fragment i covers the column, and its price goes to its slot
-  gathered-put : (prices : List ℕ) (i : ℕ) → nth slots i < 8 → T (covers g c i) → Gathered g slots c letter i prices
+  pub gathered-put : (prices : List ℕ) (i : ℕ) → nth slots i < 8 → T (covers g c i) → Gathered g slots c letter i prices
       → Gathered g slots c letter (i + 1) (set prices (nth slots i) (letter_price g c letter i))
   gathered-put prices i low t h =
       let inside : nth slots i < length prices = let z = h.size in omega arith in

@@ -1,3 +1,4 @@
+pub mod AppendLaws
 pub mod FieldLaws
 pub mod NumberLaws
 pub mod LineLaws

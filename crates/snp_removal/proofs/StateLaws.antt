@@ -76,7 +76,7 @@ mixed-weight i j v may may' em eh eo ek eg ex = ex ∙ rw (em, eg, eo, eh, ek)
 -- ---- what the table holds
 
 module _ (g : Grid) where
-  holds-none : (v : ℕ → ℕ) → ((j : ℕ) → v j ≡ 0) → HoldsColumns g 0 v
+  pub holds-none : (v : ℕ → ℕ) → ((j : ℕ) → v j ≡ 0) → HoldsColumns g 0 v
   unfolding least_column_weight
   holds-none v zeros = record { holds = λ j le. zeros j }
 
