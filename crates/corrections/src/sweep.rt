@@ -1,6 +1,7 @@
 // The elimination: from the last column to the first, one least weight for each side pattern of the 8 slots.
 ghost use Rattle.std.specs.Prelude.{◌≡◌, ◌+◌, ◌<◌, if◌then◌else◌};
 ghost use Rattle.below.specs.Below.{nth, ◌=?◌};
+ghost use Rattle.ranks.specs.Algorithm.Lent.{weights_in};
 ghost use Rattle.slots.specs.Algorithm.Spans.{span_at};
 ghost use Rattle.corrections.specs.Algorithm.Sweep.{Gathered, EnterRoom, EntersIf};
 ghost use Rattle.corrections.specs.Algorithm.Elimination.{grid_in, HoldsFrom};
@@ -37,9 +38,9 @@ impl<'a> Columns<'a> {
     }
 
     // Fragment f enters, if it starts at column c.
-    fn enter_if(&self, t: &mut Ranks<'_, 256>, c: usize, f: usize)
-        requires { (f < self.now.m) × EnterRoom (span_at self.now.spans.now f).start c f (nth t.old) }
-        ensures { EntersIf (span_at self.now.spans.now f).start (nth self.now.slots.now f) c f (nth t.old) (nth t.new) }
+    fn enter_if(&self, t: &mut Ranks<256>, c: usize, f: usize)
+        requires { (f < self.now.m) × EnterRoom (span_at self.now.spans.now f).start c f (nth (weights_in t.old)) }
+        ensures { EntersIf (span_at self.now.spans.now f).start (nth self.now.slots.now f) c f (nth (weights_in t.old)) (nth (weights_in t.new)) }
     {
         if self.spans[f].start == c {
             enter(t, f, self.slots[f]);
@@ -47,9 +48,9 @@ impl<'a> Columns<'a> {
     }
 
     // The events of column c, from the last to the first.
-    fn column(&self, t: &mut Ranks<'_, 256>, c: usize)
-        requires { (c < self.now.n) × HoldsFrom self.now (c + 1) (nth t.old) }
-        ensures { HoldsFrom self.now c (nth t.new) }
+    fn column(&self, t: &mut Ranks<256>, c: usize)
+        requires { (c < self.now.n) × HoldsFrom self.now (c + 1) (nth (weights_in t.old)) }
+        ensures { HoldsFrom self.now c (nth (weights_in t.new)) }
     {
         let (a, b) = self.gather(c);
         charge(&a, &b, t);
@@ -59,9 +60,9 @@ impl<'a> Columns<'a> {
     }
 
     // All the events, from a table of zeros.
-    pub(crate) fn eliminate(&self, t: &mut Ranks<'_, 256>)
-        requires { HoldsFrom self.now self.now.n (nth t.old) }
-        ensures { HoldsFrom self.now 0 (nth t.new) }
+    pub(crate) fn eliminate(&self, t: &mut Ranks<256>)
+        requires { HoldsFrom self.now self.now.n (nth (weights_in t.old)) }
+        ensures { HoldsFrom self.now 0 (nth (weights_in t.new)) }
     {
         for c in (0..self.n).rev() {
             self.column(t, c);

@@ -3,11 +3,13 @@
 // The sides are alike, so a pair of states has one place, in the row of the later one.
 #![tactic(auto)]
 
+mod arrays;
 mod copying;
 mod fragment;
 mod rows;
 mod weights;
 
+pub use arrays::{births_in, layer_in};
 pub use copying::births;
 pub use fragment::{Fragment, STATES};
 pub use rows::{PLACES, layer};

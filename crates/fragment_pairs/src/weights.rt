@@ -4,6 +4,7 @@ ghost use Rattle.below.specs.Below.{◌<?◌, nth};
 ghost use Rattle.conflicts.specs.Choice.{marked};
 ghost use Rattle.ranks.specs.Algorithm.Reading.{value, SumFits};
 ghost use Rattle.ranks.specs.Algorithm.Tables.{Put};
+ghost use Rattle.ranks.specs.Algorithm.Lent.{weights_in, SameArrays};
 ghost use Rattle.fragment_pairs.specs.Algorithm.Layer.{furthest, keep_fragment};
 ghost use Rattle.fragment_pairs.specs.Algorithm.Pairs.{Fits};
 
@@ -50,15 +51,15 @@ impl<'a> Fragment<'a> {
     // weighs `far` if that moves on, or on side 1, which takes the pair to place k.
     pub(crate) fn weight_at(
         &self,
-        t: &Ranks<'_, PLACES>,
+        t: &Ranks<PLACES>,
         far: Rank,
         l: usize,
         j: usize,
         k: usize,
     ) -> Rank
-        requires { (j < PLACES) × (k < PLACES) × (l ≤ self.now.i) × Fits self.now.own (value far) (nth t.now k) (nth t.now j) }
-        ensures { (value result ≡ keep_fragment true (marked self.now.agrees.now l) (value self.now.own + nth t.now k)
-            (if nth self.now.reaches.now l <? nth self.now.reaches.now (self.now.i + 1) then value far else value self.now.own + nth t.now j) (nth t.now j))
+        requires { (j < PLACES) × (k < PLACES) × (l ≤ self.now.i) × Fits self.now.own (value far) (nth (weights_in t.now) k) (nth (weights_in t.now) j) }
+        ensures { (value result ≡ keep_fragment true (marked self.now.agrees.now l) (value self.now.own + nth (weights_in t.now) k)
+            (if nth self.now.reaches.now l <? nth self.now.reaches.now (self.now.i + 1) then value far else value self.now.own + nth (weights_in t.now) j) (nth (weights_in t.now) j))
             × (result.count < 65536) }
     {
         let here = t.get(j);
@@ -71,11 +72,12 @@ impl<'a> Fragment<'a> {
     }
 
     // Puts that weight where the fragment does not join side 1: it stays as it is, unless the fragment joins side 2.
-    pub(crate) fn put_apart(&self, t: &mut Ranks<'_, PLACES>, far: Rank, l: usize, j: usize)
-        requires { (j < PLACES) × (l ≤ self.now.i) × Fits self.now.own (value far) (nth t.old j) (nth t.old j) }
-        ensures { Put (nth t.old) (nth t.new) j
+    pub(crate) fn put_apart(&self, t: &mut Ranks<PLACES>, far: Rank, l: usize, j: usize)
+        requires { (j < PLACES) × (l ≤ self.now.i) × Fits self.now.own (value far) (nth (weights_in t.old) j) (nth (weights_in t.old) j) }
+        ensures weights { Put (nth (weights_in t.old)) (nth (weights_in t.new)) j
             (keep_fragment false (marked self.now.agrees.now l) 0
-            (if nth self.now.reaches.now l <? nth self.now.reaches.now (self.now.i + 1) then value far else value self.now.own + nth t.old j) (nth t.old j)) }
+            (if nth self.now.reaches.now l <? nth self.now.reaches.now (self.now.i + 1) then value far else value self.now.own + nth (weights_in t.old) j) (nth (weights_in t.old) j)) }
+        ensures arrays { SameArrays t.old t.new }
     {
         if self.joins(l) {
             let r = self.greater_joined(t.get(j), l, far);

@@ -2,6 +2,7 @@
 // A state that reaches no further than every fragment to come starts is dead: it hinders none of them. The first states are dead up to some d, and d stands for all of them.
 ghost use Rattle.std.specs.Prelude.{◌≡◌, ◌+◌, ◌-◌, ◌<◌, ◌≤◌, length, replicate};
 ghost use Rattle.below.specs.Below.{nth};
+ghost use Rattle.ranks.specs.Algorithm.Lent.{weights_in};
 ghost use Rattle.conflicts.specs.Choice.{zeros};
 ghost use Rattle.fields.specs.Writing.{calls_start_of};
 ghost use Rattle.masks.specs.Algorithm.Masks.{line_at, code_in};
@@ -51,10 +52,10 @@ impl<'a> Fragments<'a> {
     }
 
     // One fragment more, before the last k. The states up to d are dead, and d stands for them; it returns the last of those that are dead before the fragment too.
-    fn extend(&self, t: &mut Ranks<'_, PLACES>, k: usize, d: usize) -> usize
-        requires { (k < self.now.m) × (d ≤ self.now.m - k) × Dead (grid_in self.now) k d × HoldsFragments (grid_in self.now) k d (pairs t.old) }
+    fn extend(&self, t: &mut Ranks<PLACES>, k: usize, d: usize) -> usize
+        requires { (k < self.now.m) × (d ≤ self.now.m - k) × Dead (grid_in self.now) k d × HoldsFragments (grid_in self.now) k d (pairs (weights_in t.old)) }
         ensures { (result ≤ self.now.m - (k + 1)) × Dead (grid_in self.now) (k + 1) result
-            × HoldsFragments (grid_in self.now) (k + 1) result (pairs t.new) }
+            × HoldsFragments (grid_in self.now) (k + 1) result (pairs (weights_in t.new)) }
     {
         let i = self.m - 1 - k;
         let dead = self.last_dead(i, d);
@@ -72,9 +73,9 @@ impl<'a> Fragments<'a> {
     }
 
     // All fragments, from a table of zeros.
-    fn suffixes(&self, t: &mut Ranks<'_, PLACES>)
-        requires { HoldsFragments (grid_in self.now) 0 self.now.m (pairs t.old) }
-        ensures { HoldsFragments (grid_in self.now) self.now.m 0 (pairs t.new) }
+    fn suffixes(&self, t: &mut Ranks<PLACES>)
+        requires { HoldsFragments (grid_in self.now) 0 self.now.m (pairs (weights_in t.old)) }
+        ensures { HoldsFragments (grid_in self.now) self.now.m 0 (pairs (weights_in t.new)) }
     {
         let mut d = self.m;
         for k in 0..self.m {

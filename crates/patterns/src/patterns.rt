@@ -4,6 +4,7 @@ ghost use Rattle.below.specs.Below.{nth};
 ghost use Rattle.ranks.specs.Algorithm.Weight.{top, place};
 ghost use Rattle.ranks.specs.Algorithm.Reading.{value};
 ghost use Rattle.ranks.specs.Algorithm.Tables.{Sweep};
+ghost use Rattle.ranks.specs.Algorithm.Lent.{weights_in};
 ghost use Rattle.events.specs.Algorithm.Weights.{side_weight};
 ghost use Rattle.events.specs.Algorithm.Slots.{entered};
 ghost use Rattle.patterns.specs.Algorithm.Patterns.{Alone, PatternRoom, PatternsRoom, entered_at, Prices, slot_total_of, slot_cost};
@@ -38,18 +39,18 @@ fn mask_cost(a: &[u8; 8], b: &[u8; 8], mask: usize) -> u32
 }
 
 // A mask's weight where a column is charged.
-fn charged_at(a: &[u8; 8], b: &[u8; 8], t: &Ranks<'_, 256>, mask: usize) -> Rank
-    requires { Prices a.now × Prices b.now × (mask < 256) × PatternRoom 0 (nth t.now mask) }
-    ensures { (value result ≡ slot_cost a.now b.now mask * top + nth t.now mask) × (result.count < 65536) }
+fn charged_at(a: &[u8; 8], b: &[u8; 8], t: &Ranks<256>, mask: usize) -> Rank
+    requires { Prices a.now × Prices b.now × (mask < 256) × PatternRoom 0 (nth (weights_in t.now) mask) }
+    ensures { (value result ≡ slot_cost a.now b.now mask * top + nth (weights_in t.now) mask) × (result.count < 65536) }
 {
     let cost = Rank::counted(mask_cost(a, b, mask));
     cost.plus(t.get(mask))
 }
 
 // A column is charged at every mask, by the prices of A and of B in the slots.
-pub fn charge(a: &[u8; 8], b: &[u8; 8], t: &mut Ranks<'_, 256>)
-    requires { Prices a.now × Prices b.now × PatternsRoom 0 0 (nth t.old) }
-    ensures { Sweep (λ (mask : ℕ). slot_cost a.now b.now mask * top + nth t.old mask) (nth t.old) (nth t.new) 0 256 }
+pub fn charge(a: &[u8; 8], b: &[u8; 8], t: &mut Ranks<256>)
+    requires { Prices a.now × Prices b.now × PatternsRoom 0 0 (nth (weights_in t.old)) }
+    ensures { Sweep (λ (mask : ℕ). slot_cost a.now b.now mask * top + nth (weights_in t.old) mask) (nth (weights_in t.old)) (nth (weights_in t.new)) 0 256 }
 {
     for mask in 0..256 {
         let charged = charged_at(a, b, t, mask);
@@ -58,9 +59,9 @@ pub fn charge(a: &[u8; 8], b: &[u8; 8], t: &mut Ranks<'_, 256>)
 }
 
 // A mask's weight where fragment f, which weighs `out` on side 2, enters at slot b.
-fn entered_at(t: &Ranks<'_, 256>, out: Rank, f: usize, b: usize, mask: usize) -> Rank
-    requires { Alone f out × (b < 8) × (mask < 256) × PatternsRoom 0 0 (nth t.now) × PatternsRoom (place f) mask (nth t.now) }
-    ensures { (value result ≡ entered_at b (place f) (nth t.now) mask) × PatternRoom 0 (value result) }
+fn entered_at(t: &Ranks<256>, out: Rank, f: usize, b: usize, mask: usize) -> Rank
+    requires { Alone f out × (b < 8) × (mask < 256) × PatternsRoom 0 0 (nth (weights_in t.now)) × PatternsRoom (place f) mask (nth (weights_in t.now)) }
+    ensures { (value result ≡ entered_at b (place f) (nth (weights_in t.now)) mask) × PatternRoom 0 (value result) }
 {
     let bit = 1usize << b;
     if (mask >> b) % 2 == 0 {
@@ -72,9 +73,9 @@ fn entered_at(t: &Ranks<'_, 256>, out: Rank, f: usize, b: usize, mask: usize) ->
 }
 
 // Fragment f enters at slot b, at every mask.
-pub fn enter(t: &mut Ranks<'_, 256>, f: usize, b: usize)
-    requires { (f < 128) × (b < 8) × PatternsRoom (place f) 0 (nth t.old) }
-    ensures { Sweep (entered 2 b (side_weight f) (nth t.old)) (nth t.old) (nth t.new) 0 256 }
+pub fn enter(t: &mut Ranks<256>, f: usize, b: usize)
+    requires { (f < 128) × (b < 8) × PatternsRoom (place f) 0 (nth (weights_in t.old)) }
+    ensures { Sweep (entered 2 b (side_weight f) (nth (weights_in t.old))) (nth (weights_in t.old)) (nth (weights_in t.new)) 0 256 }
 {
     let out = Rank::single(0, f);
     for mask in 0..256 {

@@ -37,7 +37,7 @@ unfolding weighted_grid
 eliminate-requires c =
     let a = c.args in
     holds-start (weighted_grid a.m a.n a.cells.now a.weights.now) _ (slotted-weighted a.m a.n a.cells.now a.weights.now c.fill_slots.ensures) _
-    (λ mask. ap (λ (t : List ℕ). nth t mask) c.new-t.ensures ∙ zeros-weights 256 256 256 mask)
+    (λ mask. ap (λ (t : List ℕ). nth t mask) c.new-t.ensures.weights ∙ zeros-weights 256 256 256 mask)
 
 pub returns : goal.returns
 unfolding weighted_grid

@@ -14,7 +14,7 @@ unfolding words_grid
 suffixes-requires c =
     let a = c.args in
     let p = c.requires in
-    (p.1, words_grid a.m a.n a.masks.now, columns-of a.m a.n a.masks.now p.0 p.1 (c.fill_columns.ensures _ p.2), refl, zeros-held _ c.new-table.ensures)
+    (p.1, words_grid a.m a.n a.masks.now, columns-of a.m a.n a.masks.now p.0 p.1 (c.fill_columns.ensures _ p.2), refl, zeros-held _ c.new-table.ensures.weights)
 
 pub loop-p-init : goal.loop-p-init
 loop-p-init c = filled_none _ _ _ c.requires.4
@@ -29,6 +29,6 @@ returns c =
     let p = c.requires in
     let g = words_grid a.m a.n a.masks.now in
     let r = c.get-least in
-    let held = c.suffixes.ensures g (columns-of a.m a.n a.masks.now p.0 p.1 (c.fill_columns.ensures _ p.2)) refl (zeros-held g c.new-table.ensures) in
+    let held = c.suffixes.ensures g (columns-of a.m a.n a.masks.now p.0 p.1 (c.fill_columns.ensures _ p.2)) refl (zeros-held g c.new-table.ensures.weights) in
     let m = rank-marks g p.3 p.1 r.result (search rules) (search rules) (r.ensures ∙ held.holds 0 zero-le) in
     (filled-all _ _ c.loop-p.p c.loop-p.keep c.loop-p.invariant (omega arith) ∙ m.0, m.1)

@@ -3,6 +3,7 @@ use Prim.Native.Nat.{ℕ, ◌+◌, ◌≤◌, ◌<◌}
 use native.Mathlib.Nat.{le_refl}
 use native.Mathlib.Omega.{arith}
 use borrow.Author.Rules.{rules}
+use Rattle.ranks.proofs.TableLaws.{same-more}
 use Rattle.fragment_pairs.proofs.CornerLaws.{row_inside}
 use Rattle.fragment_pairs.proofs.BirthLaws.{born-more, born-all}
 use Rattle.fragment_pairs.proofs.copying.birth.Goals as goal
@@ -25,8 +26,10 @@ copy-requires c =
 
 pub loop-h-preserved : goal.loop-h-preserved
 loop-h-preserved c =
-    let l = c.loop-h in
-    born-more c.args.s l.h l.invariant (omega arith) c.row_start-start.ensures c.copy.ensures
+    let l = c.loop-h in record {
+      weights = born-more c.args.s l.h l.invariant.weights (omega arith) c.row_start-start.ensures c.copy.ensures.weights;
+      arrays = same-more l.invariant.arrays c.copy.ensures.arrays;
+    }
 
 -- the places of the pairs of each state with itself are in the table
 inside-own : (c : After-row_start-own) → (c.row_start-other.result + (c.args.s + 1) < 8385) × (c.row_start-own.result + c.args.s < 8385)
@@ -45,5 +48,7 @@ copy-requires-2 c = (search rules, inside-own (goal.at.copy-requires-2 c).After-
 
 pub returns : goal.returns
 returns c =
-    let l = c.loop-h in
-    born-all c.args.s c.args.n l.h l.invariant (omega arith) c.row_start-own.ensures c.row_start-other.ensures c.copy-2.ensures
+    let l = c.loop-h in record {
+      weights = born-all c.args.s c.args.n l.h l.invariant.weights (omega arith) c.row_start-own.ensures c.row_start-other.ensures c.copy-2.ensures.weights;
+      arrays = same-more l.invariant.arrays c.copy-2.ensures.arrays;
+    }

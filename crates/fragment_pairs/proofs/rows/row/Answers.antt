@@ -7,6 +7,7 @@ use native.Mathlib.Omega.{arith}
 use borrow.Author.Rules.{rules}
 use Rattle.below.specs.Below.{nth}
 use Rattle.ranks.specs.Algorithm.Reading.{value}
+use Rattle.ranks.specs.Algorithm.Lent.{weights_in}
 use Rattle.fragment_pairs.specs.Algorithm.Pairs.{pairs}
 use Rattle.fragment_pairs.proofs.CornerLaws.{row_inside, corner-last}
 use Rattle.fragment_pairs.proofs.PairLaws.{sum_fits}
@@ -24,10 +25,10 @@ pub get-requires : goal.get-requires
 get-requires c = let k = inside (goal.at.get-requires c).After-row_start-last in search rules
 
 -- what is read there
-last : (c : After-get) → let a = c.args in value c.get.result ≡ pairs a.t.now a.h (a.f.now.i + 1)
+last : (c : After-get) → let a = c.args in value c.get.result ≡ pairs (weights_in a.t.now) a.h (a.f.now.i + 1)
 last c =
     let a = c.args in
-    c.get.ensures ∙ ap (nth a.t.now) (corner-last a.h a.f.now.i c.row_start-last.ensures c.requires.1)
+    c.get.ensures ∙ ap (nth (weights_in a.t.now)) (corner-last a.h a.f.now.i c.row_start-last.ensures c.requires.1)
 
 pub plus-far-requires : goal.plus-far-requires
 plus-far-requires c =
@@ -37,10 +38,10 @@ plus-far-requires c =
     let room = c.requires.2 in
     sum_fits f.own get.result room.others room.few room.fits get.type_inv.1.1.1.0.1 get.type_inv.1.1.1.1.0.1 (last (goal.at.plus-far-requires c).After-get) (room.small h (f.i + 1) (le_refl h) (omega arith) (omega arith) (le_refl (f.i + 1)))
 
-far : (c : After-plus-far) → let a = c.args in value c.plus-far.result ≡ value a.f.now.own + pairs a.t.now a.h (a.f.now.i + 1)
+far : (c : After-plus-far) → let a = c.args in value c.plus-far.result ≡ value a.f.now.own + pairs (weights_in a.t.now) a.h (a.f.now.i + 1)
 far c =
     let a = c.args in
-    c.plus-far.ensures ∙ ap (λ (x : ℕ). value a.f.now.own + x) (c.get.ensures ∙ ap (nth a.t.now) (corner-last a.h a.f.now.i c.row_start-last.ensures c.requires.1))
+    c.plus-far.ensures ∙ ap (λ (x : ℕ). value a.f.now.own + x) (c.get.ensures ∙ ap (nth (weights_in a.t.now)) (corner-last a.h a.f.now.i c.row_start-last.ensures c.requires.1))
 
 pub row_joined-requires : goal.row_joined-requires
 row_joined-requires c =

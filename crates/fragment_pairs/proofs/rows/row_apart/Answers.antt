@@ -7,6 +7,8 @@ use borrow.Author.Rules.{rules}
 use Rattle.below.specs.Below.{nth}
 use Rattle.conflicts.specs.Choice.{marked}
 use Rattle.ranks.specs.Algorithm.Reading.{value}
+use Rattle.ranks.specs.Algorithm.Lent.{weights_in}
+use Rattle.ranks.proofs.TableLaws.{same-more}
 use Rattle.fragment_pairs.specs.Algorithm.Layer.{furthest}
 use Rattle.fragment_pairs.specs.Algorithm.Pairs.{row_start_of}
 use Rattle.fragment_pairs.proofs.CornerLaws.{row_inside}
@@ -22,7 +24,7 @@ reads : (c : After-row_start-start) →
     let a = c.args in
     let f = a.f.now in
     let r = nth f.reaches.now in
-    RowReads r (value f.own) f.i (nth a.t.now) a.h c.row_start-start.result (row_start_of (furthest r a.h f.i)) (value a.far)
+    RowReads r (value f.own) f.i (nth (weights_in a.t.now)) a.h c.row_start-start.result (row_start_of (furthest r a.h f.i)) (value a.far)
 reads c = record { begins = c.row_start-start.ensures; moves = refl; last = c.requires.3 }
 
 pub overflow_add-start : goal.overflow_add-start
@@ -34,12 +36,14 @@ put_apart-requires c =
     let l = c.loop-l in
     let a = c.args in
     let f = a.f.now in
-    (inside at l.l (omega arith), omega arith, fits-here (row_fits (marked f.agrees.now) (nth f.reaches.now) f.own f.i (nth a.t.now) (nth l.t) a.d a.h l.l (reads at) c.requires.1 (omega arith) (omega arith) l.invariant c.requires.2))
+    (inside at l.l (omega arith), omega arith, fits-here (row_fits (marked f.agrees.now) (nth f.reaches.now) f.own f.i (nth (weights_in a.t.now)) (nth (weights_in l.t)) a.d a.h l.l (reads at) c.requires.1 (omega arith) (omega arith) l.invariant.weights c.requires.2))
 
 pub loop-l-preserved : goal.loop-l-preserved
 loop-l-preserved c =
     let l = c.loop-l in
     let a = c.args in
-    let f = a.f.now in
-    row_more (marked f.agrees.now) (nth f.reaches.now) f.own f.i (nth a.t.now) (nth l.t) a.d a.h l.l (reads (goal.at.loop-l-preserved c).After-row_start-start) c.requires.1 (omega arith) (omega arith) l.invariant
-    false (sym c.requires.4) refl c.put_apart.ensures
+    let f = a.f.now in record {
+      weights = row_more (marked f.agrees.now) (nth f.reaches.now) f.own f.i (nth (weights_in a.t.now)) (nth (weights_in l.t)) a.d a.h l.l (reads (goal.at.loop-l-preserved c).After-row_start-start) c.requires.1 (omega arith) (omega arith) l.invariant.weights
+          false (sym c.requires.4) refl c.put_apart.ensures.weights;
+      arrays = same-more l.invariant.arrays c.put_apart.ensures.arrays;
+    }

@@ -3,9 +3,13 @@
 use Prim.Native.Nat.{◌+◌}
 use Rattle.below.specs.Below.{nth}
 use Rattle.ranks.specs.Algorithm.Tables.{Sweep}
+use Rattle.ranks.specs.Algorithm.Lent.{weights_in, SameArrays}
 use Rattle.fragment_pairs.specs.Algorithm.Layer.{with_fragment}
 use Rattle.fragment_pairs.specs.Algorithm.Pairs.{row_start_of, pairs, along}
 use Rattle.fragment_pairs.proofs.rows.row_apart.Given as goal
 
 abbrev pub invariant-loop-l : goal.invariant-loop-l
-invariant-loop-l l = Sweep (along (with_fragment l.f (pairs l.initial.t)) l.h) (nth l.initial.t) (nth l.t) (row_start_of l.h + l.d) (row_start_of l.h + l.l)
+invariant-loop-l l = record {
+  weights : Sweep (along (with_fragment l.f (pairs (weights_in l.initial.t))) l.h) (nth (weights_in l.initial.t)) (nth (weights_in l.t)) (row_start_of l.h + l.d) (row_start_of l.h + l.l);
+  arrays : SameArrays l.initial.t l.t;
+}

@@ -8,6 +8,8 @@ use borrow.Author.Rules.{rules}
 use Rattle.below.specs.Below.{nth}
 use Rattle.conflicts.specs.Choice.{marked}
 use Rattle.ranks.specs.Algorithm.Reading.{value}
+use Rattle.ranks.specs.Algorithm.Lent.{weights_in}
+use Rattle.ranks.proofs.TableLaws.{same-more}
 use Rattle.fragment_pairs.specs.Algorithm.Pairs.{row_start_of}
 use Rattle.fragment_pairs.proofs.CornerLaws.{row_inside}
 use Rattle.fragment_pairs.proofs.PairLaws.{RowReads, row_fits, row_more, furthest-range}
@@ -26,7 +28,7 @@ inside c l lh =
 reads : (c : After-row_start-next) →
     let a = c.args in
     let f = a.f.now in
-    RowReads (nth f.reaches.now) (value f.own) f.i (nth a.t.now) a.h c.row_start-start.result c.row_start-next.result (value a.far)
+    RowReads (nth f.reaches.now) (value f.own) f.i (nth (weights_in a.t.now)) a.h c.row_start-start.result c.row_start-next.result (value a.far)
 reads c = record { begins = c.row_start-start.ensures; moves = c.row_start-next.ensures ∙ ap row_start_of c.furthest_of.ensures; last = c.requires.3 }
 
 pub overflow_add-j : goal.overflow_add-j
@@ -42,7 +44,7 @@ weight_at-r-requires c =
     let a = c.args in
     let f = a.f.now in
     let k = inside at l.l (omega arith) in
-    (k.0, k.1, omega arith, row_fits (marked f.agrees.now) (nth f.reaches.now) f.own f.i (nth a.t.now) (nth l.t) a.d a.h l.l (reads at) c.requires.1 (omega arith) (omega arith) l.invariant c.requires.2)
+    (k.0, k.1, omega arith, row_fits (marked f.agrees.now) (nth f.reaches.now) f.own f.i (nth (weights_in a.t.now)) (nth (weights_in l.t)) a.d a.h l.l (reads at) c.requires.1 (omega arith) (omega arith) l.invariant.weights c.requires.2)
 
 pub put-requires : goal.put-requires
 put-requires c = (search rules, ((inside (goal.at.put-requires c).After-row_start-next c.loop-l.l (omega arith)).0, c.weight_at-r.ensures.1))
@@ -51,6 +53,8 @@ pub loop-l-preserved : goal.loop-l-preserved
 loop-l-preserved c =
     let l = c.loop-l in
     let a = c.args in
-    let f = a.f.now in
-    row_more (marked f.agrees.now) (nth f.reaches.now) f.own f.i (nth a.t.now) (nth l.t) a.d a.h l.l (reads (goal.at.loop-l-preserved c).After-row_start-next) c.requires.1 (omega arith) (omega arith) l.invariant
-    true (sym c.requires.4) c.weight_at-r.ensures.0 c.put.ensures
+    let f = a.f.now in record {
+      weights = row_more (marked f.agrees.now) (nth f.reaches.now) f.own f.i (nth (weights_in a.t.now)) (nth (weights_in l.t)) a.d a.h l.l (reads (goal.at.loop-l-preserved c).After-row_start-next) c.requires.1 (omega arith) (omega arith) l.invariant.weights
+          true (sym c.requires.4) c.weight_at-r.ensures.0 c.put.ensures.weights;
+      arrays = same-more l.invariant.arrays c.put.ensures.arrays;
+    }

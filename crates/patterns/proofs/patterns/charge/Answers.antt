@@ -5,6 +5,7 @@ use native.Mathlib.Omega.{arith}
 use Rattle.below.specs.Below.{nth}
 use Rattle.ranks.specs.Algorithm.Weight.{top}
 use Rattle.ranks.specs.Algorithm.Tables.{Sweep}
+use Rattle.ranks.specs.Algorithm.Lent.{weights_in}
 use Rattle.ranks.proofs.TableLaws.{put_as, sweep-none, sweep-more}
 use Rattle.patterns.specs.Algorithm.Patterns.{PatternRoom, slot_cost}
 use Rattle.patterns.proofs.patterns.charge.Goals as goal
@@ -22,12 +23,12 @@ pub loop-mask-preserved : goal.loop-mask-preserved
 loop-mask-preserved c =
     let loop = c.loop-mask in
     let a = c.args in
-    sweep-more zero-le loop.invariant (put_as c.put.ensures (c.charged_at-charged.ensures.0 ∙ ap (λ (x : ℕ). slot_cost a.a.now a.b.now loop.mask * top + x) (loop.invariant.rest loop.mask (λ lo hi. omega arith))))
+    sweep-more zero-le loop.invariant (put_as c.put.ensures.weights (c.charged_at-charged.ensures.0 ∙ ap (λ (x : ℕ). slot_cost a.a.now a.b.now loop.mask * top + x) (loop.invariant.rest loop.mask (λ lo hi. omega arith))))
 
 pub returns : goal.returns
 returns c =
     let loop = c.loop-mask in
     let a = c.args in
-    let v = nth a.t.now in
+    let v = nth (weights_in a.t.now) in
     let e : loop.mask ≡ 256 = omega arith in
-    subst (Sweep (λ (mask : ℕ). slot_cost a.a.now a.b.now mask * top + v mask) v (nth loop.t) 0) e loop.invariant
+    subst (Sweep (λ (mask : ℕ). slot_cost a.a.now a.b.now mask * top + v mask) v (nth (weights_in loop.t)) 0) e loop.invariant

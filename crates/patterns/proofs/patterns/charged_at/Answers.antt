@@ -5,6 +5,7 @@ use Prim.Native.Nat.{ℕ, ◌+◌, ◌*◌}
 use borrow.Author.Rules.{rules}
 use Rattle.below.specs.Below.{nth}
 use Rattle.ranks.specs.Algorithm.Weight.{top}
+use Rattle.ranks.specs.Algorithm.Lent.{weights_in}
 use Rattle.patterns.proofs.RoomLaws.{charge-fits, charge-count}
 use Rattle.patterns.proofs.patterns.charged_at.Goals as goal
 
@@ -19,4 +20,4 @@ returns c =
     let mask-cost = c.mask_cost in
     let is = c.plus.ensures ∙ ap₂ ◌+◌ c.counted-cost.ensures c.get.ensures in
     let a = c.args in
-    (is ∙ ap (λ (x : ℕ). x * top + nth a.t.now a.mask) mask-cost.ensures.0, charge-count c.plus.result mask-cost.result (search rules) (search rules) mask-cost.ensures.1 is c.requires.3)
+    (is ∙ ap (λ (x : ℕ). x * top + nth (weights_in a.t.now) a.mask) mask-cost.ensures.0, charge-count c.plus.result mask-cost.result (search rules) (search rules) mask-cost.ensures.1 is c.requires.3)

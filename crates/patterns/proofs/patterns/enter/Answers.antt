@@ -7,6 +7,7 @@ use borrow.Author.Rules.{rules}
 use Rattle.below.specs.Below.{nth}
 use Rattle.ranks.specs.Algorithm.Weight.{place}
 use Rattle.ranks.specs.Algorithm.Tables.{Sweep}
+use Rattle.ranks.specs.Algorithm.Lent.{weights_in}
 use Rattle.ranks.proofs.TableLaws.{put_as, sweep-none, sweep-more}
 use Rattle.events.specs.Algorithm.Weights.{side_weight}
 use Rattle.events.specs.Algorithm.Slots.{entered}
@@ -38,13 +39,13 @@ pub loop-mask-preserved : goal.loop-mask-preserved
 loop-mask-preserved c =
     let l = c.loop-mask in
     let r = c.entered_at-entered in
-    let p = c.put.ensures in
+    let p = c.put.ensures.weights in
     (l.invariant.0, sweep-more zero-le l.invariant.1 (put_as p (r.ensures.0 ∙ entered-is c.args.b c.args.f l.invariant.1)), room-put p l.invariant.2 r.ensures.1)
 
 pub returns : goal.returns
 returns c =
     let l = c.loop-mask in
     let a = c.args in
-    let v = nth a.t.now in
+    let v = nth (weights_in a.t.now) in
     let e : l.mask ≡ 256 = omega arith in
-    subst (Sweep (entered 2 a.b (side_weight a.f) v) v (nth l.t) 0) e l.invariant.1
+    subst (Sweep (entered 2 a.b (side_weight a.f) v) v (nth (weights_in l.t)) 0) e l.invariant.1

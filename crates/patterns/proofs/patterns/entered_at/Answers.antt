@@ -7,6 +7,7 @@ use borrow.Author.Rules.{rules}
 use Rattle.std.proofs.Common.{lit<}
 use Rattle.below.specs.Below.{nth}
 use Rattle.ranks.specs.Algorithm.Weight.{place}
+use Rattle.ranks.specs.Algorithm.Lent.{weights_in}
 use Rattle.patterns.specs.Algorithm.Patterns.{PatternRoom}
 use Rattle.patterns.proofs.RoomLaws.{shl, in-range, alone-value, enter-fits, entered-clear, entered-set, clear_room}
 use Rattle.patterns.proofs.patterns.entered_at.Goals as goal
@@ -27,7 +28,7 @@ plus-requires c =
 pub returns-then-mask-b-eq0 : goal.returns-then-mask-b-eq0
 returns-then-mask-b-eq0 c =
     let a = c.args in
-    let v = nth a.t.now in
+    let v = nth (weights_in a.t.now) in
     let e = c.if-mask-b-eq0.true in
     let is = c.lesser.ensures ∙ ap₂ min c.get.ensures (c.plus.ensures ∙ ap₂ ◌+◌ (alone-value a.out a.f c.requires.0) (c.get-other.ensures ∙ ap (λ (x : ℕ). v (a.mask + x)) (shl a.b c.requires.1))) in
     (is ∙ sym (entered-clear a.b (place a.f) v a.mask e), subst (PatternRoom 0) (sym is) (clear_room a.b a.f a.mask v c.requires.1 c.requires.2 e c.requires.3 c.requires.4))
@@ -35,7 +36,7 @@ returns-then-mask-b-eq0 c =
 pub returns-else-mask-b-eq0 : goal.returns-else-mask-b-eq0
 returns-else-mask-b-eq0 c =
     let a = c.args in
-    let v = nth a.t.now in
+    let v = nth (weights_in a.t.now) in
     let ne = c.if-mask-b-eq0.false in
     let is = c.get-else-mask-b-eq0.ensures ∙ ap (λ (x : ℕ). v (a.mask - x)) (shl a.b c.requires.1) in
     let lt = c.requires.2 in

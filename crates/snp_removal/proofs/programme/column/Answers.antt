@@ -8,6 +8,7 @@ use Rattle.ranks.proofs.TableLaws.{put_as, sweep-none, sweep-more}
 use Rattle.snp_removal.specs.Algorithm.Columns.{words_follow}
 use Rattle.below.specs.Below.{nth}
 use Rattle.ranks.specs.Algorithm.Tables.{Sweep}
+use Rattle.ranks.specs.Algorithm.Lent.{weights_in}
 use Rattle.snp_removal.specs.Algorithm.Programme.{if_follows}
 use Rattle.snp_removal.proofs.StateLaws.{turn}
 use Rattle.snp_removal.proofs.programme.column.Goals as goal
@@ -33,7 +34,7 @@ loop-j-preserved c =
     let a = c.args in
     let swept = l.invariant.swept in record {
       out = l.invariant.out;
-      swept = sweep-more zero-le swept (put_as c.put.ensures (c.weight_at-r.ensures.0 ∙ turn (words_follow a.columns.now l.j a.i) a.i l.j swept (omega arith)));
+      swept = sweep-more zero-le swept (put_as c.put.ensures.weights (c.weight_at-r.ensures.0 ∙ turn (words_follow a.columns.now l.j a.i) a.i l.j swept (omega arith)));
     }
 
 pub returns : goal.returns
@@ -41,4 +42,4 @@ returns c =
     let l = c.loop-j in
     let a = c.args in
     let e : l.j ≡ a.i + 1 = omega arith in
-    subst (Sweep (λ j. if_follows (words_follow a.columns.now j a.i) a.i (nth a.t.now) j) (nth a.t.now) (nth l.t) 0) e l.invariant.swept
+    subst (Sweep (λ j. if_follows (words_follow a.columns.now j a.i) a.i (nth (weights_in a.t.now)) j) (nth (weights_in a.t.now)) (nth (weights_in l.t)) 0) e l.invariant.swept

@@ -3,6 +3,7 @@
 use borrow.Author.Rules.{rules}
 use mathlib.Core.Path.{◌≡◌}
 use Rattle.ranks.specs.Algorithm.Reading.{value}
+use Rattle.ranks.specs.Algorithm.Lent.{weights_in}
 use Rattle.below.specs.Below.{nth}
 use Rattle.snp_removal.specs.Algorithm.Columns.{words_follow}
 use Rattle.snp_removal.specs.Algorithm.Programme.{if_follows}
@@ -16,7 +17,7 @@ plus-gone-requires c =
 pub returns : goal.returns
 returns c =
     let a = c.args in
-    let v = nth a.t.now in
+    let v = nth (weights_in a.t.now) in
     let may = words_follow a.columns.now a.j a.i in
     let is : value c.lesser_if.result ≡ if_follows may a.i v a.j =
     mixed-weight a.i a.j v _ may c.may_follow.ensures c.get.ensures c.requires.2 c.get-2.ensures c.plus-gone.ensures c.lesser_if.ensures in

@@ -3,6 +3,7 @@ use mathlib.Core.Path.{◌≡◌, subst}
 use Prim.Native.Nat.{ℕ, ◌+◌, ◌-◌}
 use native.Mathlib.Omega.{arith}
 use Rattle.below.specs.Below.{nth}
+use Rattle.ranks.specs.Algorithm.Lent.{weights_in}
 use Rattle.corrections.specs.Algorithm.Elimination.{HoldsFrom}
 use Rattle.corrections.proofs.columns.Columns.eliminate.Goals as goal
 
@@ -11,7 +12,7 @@ column-requires c =
     let l = c.loop-c in
     let some = c.loop-c-test.true in
     let e : l.c ≡ l.c - 1 + 1 = omega arith in
-    (omega arith, subst (λ (x : ℕ). HoldsFrom c.args.self.now x (nth l.t)) e l.invariant)
+    (omega arith, subst (λ (x : ℕ). HoldsFrom c.args.self.now x (nth (weights_in l.t))) e l.invariant)
 
 pub loop-c-preserved : goal.loop-c-preserved
 loop-c-preserved c = c.column.ensures
@@ -20,4 +21,4 @@ pub returns : goal.returns
 returns c =
     let l = c.loop-c in
     let e : l.c ≡ 0 = omega arith in
-    subst (λ (x : ℕ). HoldsFrom c.args.self.now x (nth l.t)) e l.invariant
+    subst (λ (x : ℕ). HoldsFrom c.args.self.now x (nth (weights_in l.t))) e l.invariant

@@ -7,6 +7,7 @@ use Prim.Native.Nat.{ℕ, ◌+◌}
 use borrow.Author.Rules.{rules}
 use Rattle.below.specs.Below.{◌<?◌, nth}
 use Rattle.ranks.specs.Algorithm.Reading.{value}
+use Rattle.ranks.specs.Algorithm.Lent.{weights_in}
 use Rattle.fragment_pairs.proofs.PairLaws.{sum_fits, count_fits, chosen-weight}
 use Rattle.fragment_pairs.proofs.fragment.Fragment.put_apart.Goals as goal
 
@@ -25,5 +26,5 @@ put-requires c =
     let reaches = nth f.reaches.now in
     let moves = reaches a.l <? reaches (f.i + 1) in
     let two = ap (λ (x : ℕ). if moves then value a.far else value f.own + x) get.ensures in
-    let is = chosen-weight false true true (value get.result) {x = value f.own + nth a.t.now a.j} refl r.ensures refl refl two get.ensures in
+    let is = chosen-weight false true true (value get.result) {x = value f.own + nth (weights_in a.t.now) a.j} refl r.ensures refl refl two get.ensures in
     (search rules, (c.requires.0, count_fits f.own r.result false true moves c.requires.2 r.type_inv.1.1.1.0.1 r.type_inv.1.1.1.1.0.1 is))

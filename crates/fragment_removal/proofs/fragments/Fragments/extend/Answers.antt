@@ -6,6 +6,7 @@ use native.Mathlib.Omega.{arith}
 use borrow.Author.Rules.{rules}
 use Rattle.masks.specs.Algorithm.Masks.{words_grid}
 use Rattle.ranks.specs.Algorithm.Reading.{value}
+use Rattle.ranks.specs.Algorithm.Lent.{weights_in}
 use Rattle.below.specs.Below.{nth}
 use Rattle.fragment_states.specs.Algorithm.Fragments.{words_join}
 use Rattle.fragment_states.proofs.ReadLaws.{words-join}
@@ -39,7 +40,7 @@ layer-requires c =
     let g = grid_in s in
     let i = s.m - 1 - a.k in
     let few = p.few in
-    let held = holds-born g a.k a.d (omega arith) c.requires.2 (pairs a.t.now) _ dead.result (i + 1) c.requires.1 (omega arith) c.requires.3 births.ensures in (
+    let held = holds-born g a.k a.d (omega arith) c.requires.2 (pairs (weights_in a.t.now)) _ dead.result (i + 1) c.requires.1 (omega arith) c.requires.3 births.ensures.weights in (
       dead.ensures.1,
       holds-room g a.k i dead.result _ c.requires.0 refl held few own.result own.type_inv.1.1.1.0.1 own.type_inv.1.1.1.1.0.1 (removal-of i own.ensures),
     )
@@ -57,10 +58,10 @@ returns c =
     let p = s.prepared in
     let g = grid_in s in
     let i = s.m - 1 - a.k in
-    let held = holds-born g a.k a.d (omega arith) c.requires.2 (pairs a.t.now) _ dead.result (i + 1) c.requires.1 (omega arith) c.requires.3 births.ensures in (
+    let held = holds-born g a.k a.d (omega arith) c.requires.2 (pairs (weights_in a.t.now)) _ dead.result (i + 1) c.requires.1 (omega arith) c.requires.3 births.ensures.weights in (
       let h = dead.ensures.1 in omega arith,
       dead-more g a.k a.d (omega arith) c.requires.2 s.reaches.now dead.result i _ dead.ensures.0 c.requires.0 refl p.reaching.begins dead.ensures.1 refl dead.ensures.2,
       holds_more g a.k i dead.result _ c.requires.0 refl held _ (nth s.reaches.now) (value own.result) _
           (λ q lo h. between-marks (λ q. words_join s.masks.now q i) _ _ _ fill-agreements.ensures q lo h ∙ words-join g s.masks.now q i p.masks (omega arith) (omega (arith, c.requires.0)))
-          p.reaching.begins (removal-of i own.ensures) layer.ensures,
+          p.reaching.begins (removal-of i own.ensures) layer.ensures.weights,
     )

@@ -3,7 +3,7 @@ use mathlib.Core.Path.{◌≡◌, ◌∙◌}
 use Prim.Native.Nat.{◌+◌, zero-le}
 use native.Mathlib.Omega.{arith}
 use borrow.Author.Rules.{rules}
-use lib.ListN.{length, replicate, take}
+use lib.ListN.{length, replicate}
 use Rattle.below.specs.Below.{tab}
 use Rattle.below.proofs.FillLaws.{filled_none, filled_more, filled-all}
 use Rattle.conflicts.specs.Choice.{zeros}

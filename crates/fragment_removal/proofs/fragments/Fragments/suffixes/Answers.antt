@@ -6,6 +6,7 @@ use Rattle.fragment_pairs.specs.Algorithm.Pairs.{pairs}
 use Rattle.fragment_removal.specs.Algorithm.Holding.{HoldsFragments}
 use Rattle.fragment_removal.specs.Algorithm.Matrix.{grid_in}
 use Rattle.fragment_removal.proofs.DeadLaws.{dead-none}
+use Rattle.ranks.specs.Algorithm.Lent.{weights_in}
 use Rattle.fragment_removal.proofs.fragments.Fragments.suffixes.Goals as goal
 
 pub loop-k-init : goal.loop-k-init
@@ -24,4 +25,4 @@ returns c =
     let l = c.loop-k in
     let a = c.args in
     let e : l.k ≡ a.self.now.m = omega arith in
-    subst₂ (λ (k d : ℕ). HoldsFragments (grid_in a.self.now) k d (pairs l.t)) e (let z = l.invariant.within in omega arith) l.invariant.held
+    subst₂ (λ (k d : ℕ). HoldsFragments (grid_in a.self.now) k d (pairs (weights_in l.t))) e (let z = l.invariant.within in omega arith) l.invariant.held

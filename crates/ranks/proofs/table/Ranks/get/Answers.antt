@@ -1,7 +1,8 @@
 -- `Ranks::get` meets its contract.
 -- Assumes nothing.
+use mathlib.Core.Path.{refl}
 use Rattle.ranks.proofs.TableLaws.{inside_of, weight-at}
 use Rattle.ranks.proofs.table.Ranks.get.Goals as goal
 
 pub returns : goal.returns
-returns g c = let i = inside_of c.self.invariant c.requires in rw c.get.ensures (weight-at _ _ _ c.self.view_is i.in_counts)
+returns g c = rw c.get.ensures (weight-at _ _ _ refl (inside_of c.args.self.now.parallel c.requires).in_counts)
