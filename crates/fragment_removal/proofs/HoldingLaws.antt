@@ -1,7 +1,7 @@
 -- What the table holds after each fragment, and the room that it leaves for the next.
 -- Assumes nothing.
 use Rattle.std.specs.Prelude.{if◌then◌else◌}
-use mathlib.Core.Path.{◌≡◌, sym, ap, ap₂, subst, ◌∙◌}
+use mathlib.Core.Path.{◌≡◌, refl, sym, ap, ap₂, subst, ◌∙◌}
 use mathlib.Core.Bool.{Bool}
 use mathlib.Core.List.{List}
 use Prim.Native.Nat.{ℕ, suc, ◌+◌, ◌*◌, ◌^◌, ◌-◌, ◌≤◌, ◌<◌}
@@ -40,9 +40,15 @@ unfolding marked
 between-marks p k n list b s g h = rw (b.between s g h) (same_test (0 <? bit (p s)) (p s) (bit-marked (p s)) (marked-bit (p s)))
 
 -- a table of zeros, its counts the first places of a buffer of zeros
-pub zeros-pairs : {size : ℕ} {buffer table : List ℕ} → 8385 ≤ size → buffer ≡ replicate size 0
+pub zeros-pairs : {size : ℕ} {buffer counts table : List ℕ} → 8385 ≤ size → buffer ≡ replicate size 0 → counts ≡ take 8385 buffer → table ≡ weights_of counts (replicate 8385 0) (replicate 8385 0)
+    → (h l : ℕ) → pairs table h l ≡ 0
+zeros-pairs {size} room zeros first is h l = rw (is, first, zeros, take-replicate {X = ℕ} 8385 size 0 room) (zeros-weights 8385 8385 8385 (corner h l))
+
+-- the same where the words are the first places of buffers of zeros too
+pub first-zeros-pairs : {size : ℕ} {buffer table : List ℕ} → 8385 ≤ size → buffer ≡ replicate size 0
     → table ≡ weights_of (take 8385 buffer) (take 8385 (replicate 8385 0)) (take 8385 (replicate 8385 0)) → (h l : ℕ) → pairs table h l ≡ 0
-zeros-pairs {size} room zeros is h l = rw (is, zeros, take-replicate {X = ℕ} 8385 size 0 room, take-replicate {X = ℕ} 8385 8385 0 (omega arith)) (zeros-weights 8385 8385 8385 (corner h l))
+first-zeros-pairs {size} {buffer} room zeros is =
+    zeros-pairs room zeros refl (is ∙ ap (λ (words : List ℕ). weights_of (take 8385 buffer) words words) (take-replicate {X = ℕ} 8385 8385 0 (omega arith)))
 
 module _ (g : Grid) where
   -- no fragment yet

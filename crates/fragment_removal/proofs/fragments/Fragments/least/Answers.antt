@@ -13,7 +13,7 @@ use Rattle.ranks.specs.Algorithm.Weight.{digit_at}
 use Rattle.ranks.specs.Algorithm.Reading.{code}
 use Rattle.fragment_pairs.specs.Algorithm.Pairs.{row_start_of, corner}
 use Rattle.fragment_removal.specs.Algorithm.Matrix.{grid_in}
-use Rattle.fragment_removal.proofs.HoldingLaws.{zeros-pairs, holds-none}
+use Rattle.fragment_removal.proofs.HoldingLaws.{first-zeros-pairs, holds-none}
 use Rattle.fragment_removal.proofs.FragmentLaws.{rank-marks}
 use Rattle.fragment_removal.proofs.fragments.Fragments.least.Goals as goal
 use Rattle.fragment_removal.proofs.fragments.Fragments.least.Goals.{After-get-most}
@@ -21,7 +21,7 @@ use Rattle.fragment_removal.proofs.fragments.Fragments.least.Goals.{After-get-mo
 pub suffixes-requires : goal.suffixes-requires
 suffixes-requires c =
     let zero : c.fill.new.self ≡ replicate (length c.args.work.now) 0 = search rules in
-    holds-none _ _ _ (zeros-pairs (omega arith) zero c.first_of-table.ensures)
+    holds-none _ _ _ (first-zeros-pairs (omega arith) zero c.first_of-table.ensures)
 
 -- what the weight of the first states says
 marks : (c : After-get-most) →
